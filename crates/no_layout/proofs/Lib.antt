@@ -1,0 +1,3 @@
+pub mod Formed
+pub mod Left
+pub mod Split

@@ -1,0 +1,4 @@
+pub mod Field
+pub mod Part
+pub mod Stated
+pub mod Text

@@ -1,0 +1,12 @@
+//! Data layouts: what a layout string says, sizes and offsets of types, byte orders, and memories.
+#![tactic(auto)]
+
+mod draft;
+mod fault;
+mod layout;
+mod number;
+mod part;
+mod text;
+
+pub use fault::{LayoutFault, LayoutKind};
+pub use layout::Layout;
