@@ -2,11 +2,13 @@
 #![tactic(auto)]
 
 mod draft;
+mod extent;
 mod fault;
 mod layout;
 mod number;
 mod part;
 mod text;
 
+pub use extent::Extent;
 pub use fault::{LayoutFault, LayoutKind};
 pub use layout::Layout;

@@ -1,0 +1,111 @@
+-- Sizes, alignments and offsets of types under a layout (LLVM Language Reference, "Data Layout"; docs/FORMATS.md, "Sizes").
+use Rattle.std.specs.Prelude.{◌≡◌, ℕ, ◌+◌, ◌*◌, ◌/◌, ◌<◌, ◌≤◌, max, Bool, true, false, ◌&&◌, ◌||◌, nat_le, ◌==◌, if◌then◌else◌, List, map, length, take, slice_get, slice_index, Option, Some, None, IsTrue}
+use Rattle.std.specs.List.{fold}
+use Rattle.std.specs.Int.{next_multiple_of}
+use Rattle.no_ir.specs.declared.types.Ty.{Ty, out-Ty}
+use Rattle.no_ir.specs.declared.types.Ty.TheOpen.{Ty-F}
+use Rattle.no_ir.specs.declared.types.Ty.TheFolds.{fold-Ty}
+use Rattle.no_layout.specs.declared.layout.Layout.{Layout}
+use Rattle.no_layout.specs.declared.extent.Extent.{Extent}
+
+-- the most bytes that a type may have
+abbrev pub size_limit : ℕ
+size_limit = 0x1000_0000
+
+-- the size and alignment of a type, in bytes, and whether it and each type inside it has at most `size_limit` bytes
+pub record Measure : Type 0 where
+  pub size : ℕ
+  pub align : ℕ
+  pub fits : Bool
+
+-- a type of this size, where `inside` says whether the types inside it fit
+abbrev pub measure : ℕ → ℕ → Bool → Measure
+measure size align inside = record { size = size; align = align; fits = inside && nat_le size size_limit }
+
+-- how far the beginnings of two elements of an array are apart: the size, rounded up to the alignment
+abbrev pub stride_of : Measure → ℕ
+stride_of m = next_multiple_of m.size m.align
+
+-- ---- integers and pointers
+
+abbrev pub int_size : ℕ → ℕ
+int_size width =
+    if width == 1 || width == 8 then 1
+    else (if width == 16 then 2
+    else (if width == 32 then 4
+    else (if width == 64 then 8
+    else 0)))
+
+abbrev pub int_align : Layout → ℕ → ℕ
+int_align l width =
+    if width == 1 then slice_index l.int_align 0 / 8
+    else (if width == 8 then slice_index l.int_align 1 / 8
+    else (if width == 16 then slice_index l.int_align 2 / 8
+    else (if width == 32 then slice_index l.int_align 3 / 8
+    else (if width == 64 then slice_index l.int_align 4 / 8
+    else 1))))
+
+-- ---- structs
+
+-- where the next field begins: packed, at the end of the one before, and otherwise at the next multiple of its alignment
+abbrev pub place_after : Bool → ℕ → ℕ → ℕ
+place_after packed end align = if packed then end else next_multiple_of end align
+
+-- the end of the fields, the greatest of their alignments, and whether they all fit, with one field more
+abbrev pub with_field : Bool → Measure → Measure → Measure
+with_field packed all field = record {
+  size = place_after packed all.size field.align + field.size;
+  align = max all.align field.align;
+  fits = all.fits && field.fits;
+}
+
+abbrev pub no_fields : Measure
+no_fields = record { size = 0; align = 1; fits = true }
+
+abbrev pub fields_of : Bool → List Measure → Measure
+fields_of packed = fold (with_field packed) no_fields
+
+-- a packed struct has alignment 1 and no gaps, not even at its end
+abbrev pub whole : Bool → Measure → Measure
+whole packed all = if packed then measure all.size 1 all.fits else measure (next_multiple_of all.size all.align) all.align all.fits
+
+-- ---- all types
+
+-- a named type, by the numbers of the named types
+abbrev pub known : Option Extent → Measure
+known (Some e) = measure e.size e.align true
+known None = measure 0 1 true
+
+abbrev pub measure_step : Layout → List Extent → Ty-F Measure → Measure
+measure_step l sizes Ty-F.Void = measure 0 1 true
+measure_step l sizes (Ty-F.Int width) = measure (int_size width) (int_align l width) true
+measure_step l sizes Ty-F.Ptr = measure (l.pointer / 8) (l.pointer_align / 8) true
+measure_step l sizes (Ty-F.Array count element) = measure (count * stride_of element) element.align element.fits
+measure_step l sizes (Ty-F.Struct packed fields) = whole packed (fields_of packed fields)
+measure_step l sizes (Ty-F.Named k) = known (slice_get sizes k)
+
+-- the measure of a type, where `sizes` has the numbers of the named types
+abbrev pub measure_of : Layout → List Extent → Ty → Measure
+measure_of l sizes = fold-Ty Measure (measure_step l sizes)
+
+-- ---- offsets
+
+-- where field k of a struct begins
+abbrev pub offset_in : Bool → List Measure → ℕ → Option Measure → ℕ
+offset_in packed before k None = 0
+offset_in packed before k (Some field) = place_after packed (fields_of packed before).size field.align
+
+abbrev pub offset_step : Layout → List Extent → Ty-F Ty → ℕ → ℕ
+offset_step l sizes (Ty-F.Struct packed fields) k = offset_in packed (map (measure_of l sizes) (take k fields)) k (slice_get (map (measure_of l sizes) fields) k)
+offset_step l sizes _ k = 0
+
+abbrev pub offset_of : Layout → List Extent → Ty → ℕ → ℕ
+offset_of l sizes t k = offset_step l sizes (out-Ty t) k
+
+-- whether a type is a struct that has a field k
+abbrev pub field_count : Ty-F Ty → ℕ
+field_count (Ty-F.Struct packed fields) = length fields
+field_count _ = 0
+
+abbrev pub HasField : Ty → ℕ → Type 0
+HasField t k = k < field_count (out-Ty t)
