@@ -5,10 +5,13 @@ mod draft;
 mod extent;
 mod fault;
 mod layout;
+mod measured;
 mod number;
 mod part;
+mod sizes;
 mod text;
 
 pub use extent::Extent;
 pub use fault::{LayoutFault, LayoutKind};
 pub use layout::Layout;
+pub use sizes::Sizes;
