@@ -1,5 +1,5 @@
 -- Measures of numbers that are known to fit.
-use Rattle.std.specs.Prelude.{◌≡◌, ◌<◌, ◌≤◌, false, true, Option, Some, None}
+use Rattle.std.specs.Prelude.{◌≡◌, ◌<◌, ◌≤◌, ◌⊎◌, false, true, Option, Some, None}
 use Rattle.no_layout.specs.Sizes.{Measure, size_limit}
 use Rattle.no_layout.specs.Measured.{IsSmall}
 use Rattle.no_layout.specs.declared.extent.Extent.{Extent}
@@ -12,3 +12,8 @@ reached e = record { size = e.size; align = e.align; fits = true }
 abbrev pub IsFitting : Option Extent → Measure → Type 0
 IsFitting None m = size_limit < m.size
 IsFitting (Some e) m = (reached e ≡ m) × IsSmall e
+
+-- the numbers are those of the fields, or one of these does not fit, or they end too far
+abbrev pub IsEnd : Option Extent → Measure → Type 0
+IsEnd None m = (m.fits ≡ false) ⊎ (size_limit < m.size)
+IsEnd (Some e) m = (reached e ≡ m) × IsSmall e

@@ -88,24 +88,40 @@ measure_step l sizes (Ty-F.Named k) = known (slice_get sizes k)
 abbrev pub measure_of : Layout → List Extent → Ty → Measure
 measure_of l sizes = fold-Ty Measure (measure_step l sizes)
 
+-- the numbers of a type, in bytes
+abbrev pub type_size : Layout → List Extent → Ty → ℕ
+type_size l sizes t = (measure_of l sizes t).size
+
+abbrev pub type_align : Layout → List Extent → Ty → ℕ
+type_align l sizes t = (measure_of l sizes t).align
+
+abbrev pub type_stride : Layout → List Extent → Ty → ℕ
+type_stride l sizes t = stride_of (measure_of l sizes t)
+
+-- a type and each type inside it has at most `size_limit` bytes
+abbrev pub Fits : Layout → List Extent → Ty → Type 0
+Fits l sizes t = (measure_of l sizes t).fits ≡ true
+
 -- ---- offsets
 
--- where field k of a struct begins
-abbrev pub offset_in : Bool → List Measure → ℕ → Option Measure → ℕ
-offset_in packed before k None = 0
-offset_in packed before k (Some field) = place_after packed (fields_of packed before).size field.align
+-- where a field of a struct begins, behind the fields before it
+abbrev pub offset_in : Bool → List Measure → Option Measure → ℕ
+offset_in packed before None = 0
+offset_in packed before (Some field) = place_after packed (fields_of packed before).size field.align
 
 abbrev pub offset_step : Layout → List Extent → Ty-F Ty → ℕ → ℕ
-offset_step l sizes (Ty-F.Struct packed fields) k = offset_in packed (map (measure_of l sizes) (take k fields)) k (slice_get (map (measure_of l sizes) fields) k)
+offset_step l sizes (Ty-F.Struct packed fields) k = offset_in packed (map (measure_of l sizes) (take k fields)) (slice_get (map (measure_of l sizes) fields) k)
 offset_step l sizes _ k = 0
 
+-- where field k of a struct begins, in bytes from the struct's beginning
 abbrev pub offset_of : Layout → List Extent → Ty → ℕ → ℕ
 offset_of l sizes t k = offset_step l sizes (out-Ty t) k
 
--- whether a type is a struct that has a field k
+-- how many fields a struct has
 abbrev pub field_count : Ty-F Ty → ℕ
 field_count (Ty-F.Struct packed fields) = length fields
 field_count _ = 0
 
+-- a type is a struct with a field k
 abbrev pub HasField : Ty → ℕ → Type 0
 HasField t k = k < field_count (out-Ty t)

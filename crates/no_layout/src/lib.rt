@@ -8,6 +8,7 @@ mod layout;
 mod measured;
 mod number;
 mod part;
+mod queries;
 mod sizes;
 mod text;
 

@@ -1,9 +1,8 @@
-ghost use Rattle.std.specs.Prelude.{◌≡◌, ◌<◌, ℕ, IsTrue, true, map, take, drop, length};
-ghost use Rattle.std.specs.List.{All, fold};
+ghost use Rattle.std.specs.Prelude.{IsTrue, map};
 ghost use Rattle.no_layout.specs.Text.{is_formed};
-ghost use Rattle.no_layout.specs.Sizes.{fields_of, known, measure_of, no_fields, whole, with_field};
+ghost use Rattle.no_layout.specs.Sizes.{fields_of, measure_of, whole};
 ghost use Rattle.no_layout.specs.Measured.{IsMeasured};
-ghost use Rattle.no_layout.specs.Measures.{IsFitting};
+ghost use Rattle.no_layout.specs.Measures.{IsEnd};
 
 use crate::extent::{Extent, array, integer, pointer, whole, with_field};
 use crate::{Layout, Sizes};
@@ -31,9 +30,22 @@ impl Layout {
 
     /// The numbers of a struct by its fields.
     #[cycle(measure)]
+    #[tactic(auto, using(crate::proofs::Fields::whole_over))]
     fn structure(&self, sizes: &Sizes, packed: bool, fields: &[Ty]) -> Option<Extent>
         requires { IsTrue (is_formed self.now) }
         ensures { IsMeasured result (whole packed (fields_of packed (map (measure_of self.now sizes.now) fields.now))) }
+    {
+        match self.end_of(sizes, packed, fields) {
+            None => None,
+            Some(all) => whole(packed, all),
+        }
+    }
+
+    /// Where these fields of a struct end, and the greatest of their alignments.
+    #[cycle(measure)]
+    pub(crate) fn end_of(&self, sizes: &Sizes, packed: bool, fields: &[Ty]) -> Option<Extent>
+        requires { IsTrue (is_formed self.now) }
+        ensures { IsEnd result (fields_of packed (map (measure_of self.now sizes.now) fields.now)) }
     {
         let mut all = Extent { size: 0, align: 1 };
         for field in fields {
@@ -46,6 +58,6 @@ impl Layout {
                 Some(more) => more,
             };
         }
-        whole(packed, all)
+        Some(all)
     }
 }

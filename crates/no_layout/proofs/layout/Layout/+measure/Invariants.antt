@@ -4,8 +4,8 @@ use Rattle.no_layout.specs.Measured.{IsSmall}
 use Rattle.no_layout.proofs.Fields.{rest_from}
 use Rattle.no_layout.proofs.layout.Layout.+measure.Given as goal
 
-abbrev pub invariant-structure-loop-field : goal.invariant-structure-loop-field
-invariant-structure-loop-field l =
+abbrev pub invariant-end_of-loop-field : goal.invariant-end_of-loop-field
+invariant-end_of-loop-field l =
     let f = measure_of l.self l.sizes in
     record {
       value : rest_from l.packed f l.fields l.all l.field-index ≡ fields_of l.packed (map f l.fields);
