@@ -1,6 +1,9 @@
 pub mod Field
+pub mod Laws
 pub mod Measured
 pub mod Measures
+pub mod Memory
+pub mod Orders
 pub mod Part
 pub mod Sizes
 pub mod Stated
