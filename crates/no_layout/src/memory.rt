@@ -28,34 +28,34 @@ pub trait Memory: Drop {
     ghost use Rattle.no_layout.specs.declared.memory.Regions.{Regions};
     ghost use Rattle.no_layout.specs.Memory.{access, AreFormed, ArePrepared, IsGot, IsPut};
 
-    ghost ends: { Self → Regions };
+    ghost regions: { Self → Regions };
     ghost byte: { Self → ℕ → ℕ };
     ghost held: { Self → ℕ → Bool };
     ghost prepared: { Self → ℕ → Bool };
 
     /// Where constants and globals end.
     fn regions(&self) -> Regions
-        ensures regions { result ≡ ends self.now }
+        ensures regions { result ≡ regions self.now }
         ensures formed { AreFormed result };
 
     /// What an access of so many bytes would answer. Nothing is read or written.
     fn ready(&self, addr: u64, len: u64, write: bool) -> Access
         requires { 0 < len }
-        ensures { result ≡ access (ends self.now) (held self.now) write addr len };
+        ensures { result ≡ access (regions self.now) (held self.now) write addr len };
 
     /// Reads the bytes from an address on. Where it is not done, the buffer stays as it was.
     fn get(&self, addr: u64, into: &mut [u8]) -> Access
         requires { 0 < length into.old }
-        ensures answer { result ≡ access (ends self.now) (held self.now) false addr (length into.old) }
+        ensures answer { result ≡ access (regions self.now) (held self.now) false addr (length into.old) }
         ensures bytes { IsGot result (byte self.now) addr into.old into.new };
 
     /// Writes bytes from an address on. Where it is not done, nothing changes.
     fn put(&mut self, addr: u64, bytes: &[u8]) -> Access
         requires some { 0 < length bytes.now }
         requires prepared { ArePrepared (held self.old) (prepared self.old) addr (length bytes.now) }
-        ensures answer { result ≡ access (ends self.old) (held self.old) true addr (length bytes.now) }
+        ensures answer { result ≡ access (regions self.old) (held self.old) true addr (length bytes.now) }
         ensures bytes { IsPut result (byte self.old) (byte self.new) addr bytes.now }
-        ensures regions { ends self.new ≡ ends self.old }
+        ensures regions { regions self.new ≡ regions self.old }
         ensures held { held self.new ≡ held self.old }
         ensures prepared { prepared self.new ≡ prepared self.old };
 
@@ -65,6 +65,6 @@ pub trait Memory: Drop {
         ensures prepared { OnOk result (prepared self.new page ≡ true) }
         ensures kept { (p : ℕ) → prepared self.old p ≡ true → prepared self.new p ≡ true }
         ensures bytes { byte self.new ≡ byte self.old }
-        ensures regions { ends self.new ≡ ends self.old }
+        ensures regions { regions self.new ≡ regions self.old }
         ensures held { held self.new ≡ held self.old };
 }

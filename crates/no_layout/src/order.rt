@@ -1,5 +1,6 @@
-ghost use Rattle.std.specs.Prelude.{◌≡◌, ◌<◌, ◌^◌, ℕ, List, length};
-ghost use Rattle.no_layout.specs.Orders.{IsWidth, big_of, little_of};
+ghost use Rattle.std.specs.Prelude.{◌≡◌, ◌<◌, ◌^◌, ℕ, List, length, reverse};
+ghost use Rattle.std.specs.List.{All};
+ghost use Rattle.no_layout.specs.Orders.{IsWidth, big_of, bytes_of, little_of, number_of, swapped};
 
 use byteorder::{BigEndian, ByteOrder, LittleEndian};
 
@@ -69,4 +70,34 @@ impl Order for Little {
         let width = into.len();
         LittleEndian::write_uint(into, value, width);
     }
+}
+
+/// The number in these bytes, in the order of a layout.
+pub fn get_number(big: bool, bytes: &[u8]) -> u64
+    requires { IsWidth (length bytes.now) }
+    ensures { result ≡ number_of big bytes.now }
+{
+    if big { Big::get(bytes) } else { Little::get(bytes) }
+}
+
+/// Makes these bytes those of a number that fits them, in the order of a layout.
+pub fn put_number(big: bool, value: u64, into: &mut [u8])
+    requires width { IsWidth (length into.old) }
+    requires fits { value < 256 ^ length into.old }
+    ensures { into.new ≡ bytes_of big (length into.old) value }
+{
+    if big {
+        Big::put(value, into)
+    } else {
+        Little::put(value, into)
+    }
+}
+
+/// The law that joins the orders: the number in the one is the number in the other with its bytes swapped.
+#[tactic(auto, using(crate::specs::Laws::big_reversed, crate::specs::Laws::big_swapped, crate::specs::Laws::little_swapped))]
+pub fn orders_are_swapped()
+    ensures reversed { (bs : List ℕ) → big_of bs ≡ little_of (reverse bs) }
+    ensures big { (bs : List ℕ) → All (λ b. b < 256) bs → big_of bs ≡ swapped (length bs) (little_of bs) }
+    ensures little { (bs : List ℕ) → All (λ b. b < 256) bs → little_of bs ≡ swapped (length bs) (big_of bs) }
+{
 }
