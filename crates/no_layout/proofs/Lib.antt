@@ -2,3 +2,4 @@ pub mod Fields
 pub mod Formed
 pub mod Left
 pub mod Split
+pub mod NamedTypes

@@ -1,7 +1,11 @@
 -- What the code's numbers say of a measure.
-use Rattle.std.specs.Prelude.{◌≡◌, ◌<◌, ◌≤◌, false, true, Option, Some, None, List}
+use Rattle.std.specs.Prelude.{◌≡◌, ◌<◌, ◌≤◌, false, true, ℕ, Option, Some, None, List, Result, Ok, Err}
 use Rattle.std.specs.List.{All}
-use Rattle.no_layout.specs.Sizes.{Measure, size_limit}
+use Rattle.no_ir.specs.declared.types.Ty.{Ty}
+use Rattle.no_layout.specs.Sizes.{AreSizes, IsTooLarge, Measure, size_limit}
+use Rattle.no_layout.specs.declared.layout.Layout.{Layout}
+use Rattle.no_layout.specs.declared.sizes.SizesFault.{SizesFault}
+use Rattle.no_layout.specs.declared.sizes.SizesFault.TheVariants.{NoMemory, TooLarge}
 use Rattle.no_layout.specs.declared.extent.Extent.{Extent}
 
 -- at most `size_limit` bytes, aligned to 1 to 8 bytes
@@ -23,3 +27,9 @@ pub record Agrees (e : Extent) (m : Measure) : Type 0 where
 abbrev pub IsMeasured : Option Extent → Measure → Type 0
 IsMeasured None m = m.fits ≡ false
 IsMeasured (Some e) m = Agrees e m
+
+-- what the sizes of a module's types are, or why there are none
+abbrev pub IsAnswer : Layout → List (List ℕ × Ty) → Result (List Extent) SizesFault → Type 0
+IsAnswer l types (Ok sizes) = AreSizes l types sizes
+IsAnswer l types (Err (TooLarge k)) = IsTooLarge l types k
+IsAnswer l types (Err NoMemory) = Unit {0}

@@ -1,5 +1,5 @@
 -- Sizes, alignments and offsets of types under a layout (LLVM Language Reference, "Data Layout"; docs/FORMATS.md, "Sizes").
-use Rattle.std.specs.Prelude.{◌≡◌, ℕ, ◌+◌, ◌*◌, ◌/◌, ◌<◌, ◌≤◌, max, Bool, true, false, ◌&&◌, ◌||◌, nat_le, ◌==◌, if◌then◌else◌, List, map, length, take, slice_get, slice_index, Option, Some, None, IsTrue}
+use Rattle.std.specs.Prelude.{◌≡◌, ℕ, ◌+◌, ◌*◌, ◌/◌, ◌<◌, ◌≤◌, max, Bool, true, false, ◌&&◌, ◌||◌, nat_le, ◌==◌, if◌then◌else◌, List, [], ◌∷◌, ◌++◌, map, length, take, slice_get, slice_index, Option, Some, None, IsTrue}
 use Rattle.std.specs.List.{fold}
 use Rattle.std.specs.Int.{next_multiple_of}
 use Rattle.no_ir.specs.declared.types.Ty.{Ty, out-Ty}
@@ -101,6 +101,37 @@ type_stride l sizes t = stride_of (measure_of l sizes t)
 -- a type and each type inside it has at most `size_limit` bytes
 abbrev pub Fits : Layout → List Extent → Ty → Type 0
 Fits l sizes t = (measure_of l sizes t).fits ≡ true
+
+-- ---- named types
+
+-- the numbers of the types of a module, each by those of the types before it
+abbrev pub extent_of : Measure → Extent
+extent_of m = record { size = m.size; align = m.align }
+
+abbrev pub with_type : Layout → List Extent → List ℕ × Ty → List Extent
+with_type l before named = before ++ extent_of (measure_of l before named.1) ∷ []
+
+abbrev pub sizes_of : Layout → List (List ℕ × Ty) → List Extent
+sizes_of l = fold (with_type l) []
+
+-- whether there is a named type k, and it and each type inside it has at most `size_limit` bytes
+abbrev pub entry_fits : Layout → List Extent → Option (List ℕ × Ty) → Bool
+entry_fits l before None = false
+entry_fits l before (Some named) = (measure_of l before named.1).fits
+
+abbrev pub fits_at : Layout → List (List ℕ × Ty) → ℕ → Bool
+fits_at l types k = entry_fits l (sizes_of l (take k types)) (slice_get types k)
+
+-- all named types fit, and these are their numbers
+pub record AreSizes (l : Layout) (types : List (List ℕ × Ty)) (sizes : List Extent) : Type 0 where
+  pub numbers : sizes ≡ sizes_of l types
+  pub fit : (k : ℕ) → k < length types → fits_at l types k ≡ true
+
+-- named type k is the first that does not fit
+pub record IsTooLarge (l : Layout) (types : List (List ℕ × Ty)) (k : ℕ) : Type 0 where
+  pub within : k < length types
+  pub large : fits_at l types k ≡ false
+  pub first : (j : ℕ) → j < k → fits_at l types j ≡ true
 
 -- ---- offsets
 

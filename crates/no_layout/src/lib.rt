@@ -12,11 +12,12 @@ mod order;
 mod part;
 mod queries;
 mod sizes;
+mod table;
 mod text;
 
 pub use extent::Extent;
 pub use fault::{LayoutFault, LayoutKind};
 pub use layout::Layout;
 pub use memory::{Access, Memory, Regions};
-pub use order::{Big, Little, Order};
-pub use sizes::Sizes;
+pub use order::{Big, Little, Order, get_number, orders_are_swapped, put_number};
+pub use sizes::{Sizes, SizesFault};
