@@ -3,3 +3,4 @@ pub mod Formed
 pub mod Left
 pub mod Split
 pub mod NamedTypes
+pub mod Overlay

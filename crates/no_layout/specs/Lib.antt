@@ -1,4 +1,5 @@
 pub mod Field
+pub mod Flat
 pub mod Laws
 pub mod Measured
 pub mod Measures

@@ -11,6 +11,7 @@ mod number;
 mod order;
 mod part;
 mod queries;
+mod region;
 mod sizes;
 mod table;
 mod text;
