@@ -1,4 +1,5 @@
 pub mod Fields
+pub mod FlatLaws
 pub mod Formed
 pub mod Left
 pub mod Split

@@ -1,10 +1,11 @@
 -- Bytes laid over a memory: what is read back, what a write inside them leaves, and that others stay.
-use Rattle.std.proofs.Common.{◌≡◌, ℕ, zero, suc, ◌+◌, ◌-◌, ◌<◌, ◌≤◌, ◌⊎◌, inl, inr, List, [], ◌∷◌, ◌++◌, length, get_or, take, drop, refl, sym, ap, ◌∙◌, arith, replicate, if◌then◌else◌, ◌&&◌, nat_le, nat_lt, slice_index}
+use Rattle.std.proofs.Common.{◌≡◌, ℕ, zero, suc, ◌+◌, ◌-◌, ◌<◌, ◌≤◌, ◌⊎◌, inl, inr, List, [], ◌∷◌, ◌++◌, length, get_or, take, drop, refl, sym, ap, ◌∙◌, arith, if◌then◌else◌, ◌&&◌, nat_le, nat_lt, slice_index}
 use mathlib.Core.Path.{fun_ext}
 use Rattle.std.proofs.lemmas.Bool.{cases_lt, le-leb, lt-leb, lt-ltb, le-ltb, and_left, and_right}
-use Rattle.std.proofs.lemmas.List.{length-replicate, get_or-replicate, length-append, length-take-le, length-drop, get_or-take, get_or-drop, get_or_append_left, get_or-append_right}
+use Rattle.std.proofs.lemmas.List.{length-append, length-take-le, length-drop, get_or-take, get_or-drop, get_or_append_left, get_or-append_right}
 use Rattle.std.proofs.Math.Seq.{drop-cons}
 use Rattle.no_layout.specs.Memory.{read_bytes, written}
+use Rattle.no_layout.specs.Flat.{AreZero, splice}
 
 inside : (f : ℕ → ℕ) (s : ℕ) (xs : List ℕ) (a : ℕ) → s ≤ a → a < s + length xs → written f s xs a ≡ get_or xs (a - s) 0
 inside f s xs a low high = rw (le-leb s a low, lt-ltb a (s + length xs) high) refl
@@ -36,10 +37,6 @@ read_outside f s xs at (suc n) (inr h) =
     rw (above f s xs at h, read_outside f s xs (at + 1) n (inr (omega arith))) refl
 
 -- ---- writes
-
--- a list with other items from a place on
-abbrev pub splice : List ℕ → ℕ → List ℕ → List ℕ
-splice xs o bs = (take o xs ++ bs) ++ drop (o + length bs) xs
 
 module _ (xs : List ℕ) (o : ℕ) (bs : List ℕ) (fits : o + length bs ≤ length xs) where
   front_length : length (take o xs) ≡ o
@@ -147,16 +144,14 @@ module _ (f : ℕ → ℕ) (s : ℕ) (ys : List ℕ) (at : ℕ) (bs : List ℕ) 
   write_over = fun_ext over_place
 
 -- zeros laid over zeros
-pub zeros_over : (s n : ℕ) → written (λ a. 0) s (replicate n 0) ≡ λ a. 0
-zeros_over s n = fun_ext (λ a. at_zero a)
+pub zeros_over : (s : ℕ) (xs : List ℕ) → AreZero xs → written (λ a. 0) s xs ≡ λ a. 0
+zeros_over s xs zero' = fun_ext (λ a. at_zero a)
   where
-    at_zero : (a : ℕ) → written (λ b. 0) s (replicate n 0) a ≡ 0
-    at_zero a =
-        let len = length-replicate {A = ℕ} n 0 in
-        elim (cases_lt a s) [
-            inl under ↦ below (λ b. 0) s (replicate n 0) a under
-          | inr from ↦ elim (cases_lt a (s + length (replicate {A = ℕ} n 0))) [
-                inl still ↦ inside (λ b. 0) s (replicate n 0) a from still ∙ get_or-replicate n (a - s) 0 0 (omega (arith, len))
-              | inr past ↦ above (λ b. 0) s (replicate n 0) a past
-            ]
+    at_zero : (a : ℕ) → written (λ b. 0) s xs a ≡ 0
+    at_zero a = elim (cases_lt a s) [
+        inl under ↦ below (λ b. 0) s xs a under
+      | inr from ↦ elim (cases_lt a (s + length xs)) [
+            inl still ↦ inside (λ b. 0) s xs a from still ∙ zero' (a - s)
+          | inr past ↦ above (λ b. 0) s xs a past
         ]
+    ]

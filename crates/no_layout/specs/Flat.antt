@@ -1,7 +1,10 @@
 -- A memory with all its pages: each region's bytes over zeros.
-use Rattle.std.specs.Prelude.{◌≡◌, ℕ, ◌+◌, ◌-◌, ◌≤◌, ◌<◌, Bool, true, false, List, length, Option, Some, None}
+use Rattle.std.specs.Prelude.{◌≡◌, ℕ, ◌+◌, ◌-◌, ◌≤◌, ◌<◌, Bool, true, false, if◌then◌else◌, List, ◌++◌, length, slice_index, take, drop, Option, Some, None}
 use Rattle.no_layout.specs.Memory.{constants_start, globals_start, heap_start, heap_end, stack_start, stack_end, within, written}
+use Rattle.no_ir.specs.declared.ending.Trap.TheVariants.{BadAddress, ConstantWrite}
 use Rattle.no_layout.specs.declared.memory.Regions.{Regions}
+use Rattle.no_layout.specs.declared.memory.Access.{Access}
+use Rattle.no_layout.specs.declared.memory.Access.TheVariants.{Done, Refused}
 use Rattle.no_layout.specs.declared.region.Region.{Region}
 use Rattle.no_layout.specs.declared.region.Region.TheVariants.{Constants, Globals, Heap, Stack}
 
@@ -26,3 +29,44 @@ end_of r Stack = stack_end
 abbrev pub IsLocated : Regions → ℕ → ℕ → Option Region → Type 0
 IsLocated r at n None = (region : Region) → within (start_of r region) (end_of r region) at n ≡ false
 IsLocated r at n (Some region) = within (start_of r region) (end_of r region) at n ≡ true
+
+-- whether a region may be written
+abbrev pub is_written : Region → Bool
+is_written Constants = false
+is_written Globals = true
+is_written Heap = true
+is_written Stack = true
+
+-- what an access of bytes in this region answers where all pages are present
+abbrev pub answered : Option Region → Bool → Access
+answered None write = Refused BadAddress
+answered (Some Constants) write = if write then Refused ConstantWrite else Done
+answered (Some Globals) write = Done
+answered (Some Heap) write = Done
+answered (Some Stack) write = Done
+
+-- the bytes of a region among those of all four
+abbrev pub bytes_in : Region → List ℕ → List ℕ → List ℕ → List ℕ → List ℕ
+bytes_in Constants constants globals heap stack = constants
+bytes_in Globals constants globals heap stack = globals
+bytes_in Heap constants globals heap stack = heap
+bytes_in Stack constants globals heap stack = stack
+
+-- each region's bytes fill it
+pub record AreFull (r : Regions) (cs gs hs ss : List ℕ) : Type 0 where
+  pub constants : constants_start + length cs ≡ r.constants_end
+  pub globals : globals_start r + length gs ≡ r.globals_end
+  pub heap : heap_start + length hs ≡ heap_end
+  pub stack : stack_start + length ss ≡ stack_end
+
+-- a list with other items from a place on
+abbrev pub splice : List ℕ → ℕ → List ℕ → List ℕ
+splice xs o bs = (take o xs ++ bs) ++ drop (o + length bs) xs
+
+-- all n bytes from an address on lie in one region
+abbrev pub IsInRegion : Regions → ℕ → ℕ → Type 0
+IsInRegion r at n = (region : Region) × (within (start_of r region) (end_of r region) at n ≡ true)
+
+-- each byte is 0
+abbrev pub AreZero : List ℕ → Type 0
+AreZero xs = (k : ℕ) → slice_index xs k ≡ 0

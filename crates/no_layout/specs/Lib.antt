@@ -1,5 +1,6 @@
 pub mod Field
 pub mod Flat
+pub mod FlatBytes
 pub mod Laws
 pub mod Measured
 pub mod Measures

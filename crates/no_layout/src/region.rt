@@ -1,6 +1,6 @@
 ghost use Rattle.std.specs.Prelude.{◌≡◌, ◌<◌, true};
-ghost use Rattle.no_layout.specs.Memory.{AreFormed, access, globals_start, within};
-ghost use Rattle.no_layout.specs.Flat.{IsLocated, end_of, start_of};
+ghost use Rattle.no_layout.specs.Memory.{AreFormed, globals_start, within};
+ghost use Rattle.no_layout.specs.Flat.{IsLocated, answered, end_of, is_written, start_of};
 
 use crate::{Access, Regions};
 use no_ir::Trap;
@@ -76,8 +76,20 @@ pub fn locate(regions: &Regions, addr: u64, len: u64) -> Option<Region>
     }
 }
 
+/// Whether a region may be written.
+pub fn is_written(region: Region) -> bool
+    ensures { result ≡ is_written region }
+{
+    match region {
+        Region::Constants => false,
+        Region::Globals | Region::Heap | Region::Stack => true,
+    }
+}
+
 /// What an access answers where all pages are present.
-pub fn answer(found: Option<Region>, write: bool) -> Access {
+pub fn answer(found: Option<Region>, write: bool) -> Access
+    ensures { result ≡ answered found write }
+{
     match found {
         None => Access::Refused(Trap::BadAddress),
         Some(Region::Constants) if write => Access::Refused(Trap::ConstantWrite),
