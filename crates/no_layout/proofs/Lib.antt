@@ -1,5 +1,4 @@
 pub mod Fields
-pub mod FlatLaws
 pub mod Formed
 pub mod Left
 pub mod Split

@@ -4,8 +4,7 @@ use mathlib.Core.Path.{fun_ext}
 use Rattle.std.proofs.lemmas.Bool.{cases_lt, le-leb, lt-leb, lt-ltb, le-ltb, and_left, and_right}
 use Rattle.std.proofs.lemmas.List.{length-append, length-take-le, length-drop, get_or-take, get_or-drop, get_or_append_left, get_or-append_right}
 use Rattle.std.proofs.Math.Seq.{drop-cons}
-use Rattle.no_layout.specs.Memory.{read_bytes, written}
-use Rattle.no_layout.specs.Flat.{AreZero, splice}
+use Rattle.no_layout.specs.Memory.{AreZero, read_bytes, splice, written}
 
 inside : (f : ℕ → ℕ) (s : ℕ) (xs : List ℕ) (a : ℕ) → s ≤ a → a < s + length xs → written f s xs a ≡ get_or xs (a - s) 0
 inside f s xs a low high = rw (le-leb s a low, lt-ltb a (s + length xs) high) refl

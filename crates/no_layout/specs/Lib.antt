@@ -1,6 +1,4 @@
 pub mod Field
-pub mod Flat
-pub mod FlatBytes
 pub mod Laws
 pub mod Measured
 pub mod Measures

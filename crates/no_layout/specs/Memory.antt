@@ -1,5 +1,5 @@
 -- A program's memory: its regions, its pages, and what an access answers (docs/FORMATS.md, "Memory map").
-use Rattle.std.specs.Prelude.{◌≡◌, ◌≢◌, ℕ, zero, suc, ◌+◌, ◌-◌, ◌*◌, ◌/◌, ◌<◌, ◌≤◌, Bool, true, false, ◌&&◌, ◌||◌, nat_le, nat_lt, if◌then◌else◌, List, [], ◌∷◌, length, slice_index, Option, Some, None}
+use Rattle.std.specs.Prelude.{◌≡◌, ◌≢◌, ℕ, zero, suc, ◌+◌, ◌-◌, ◌*◌, ◌/◌, ◌<◌, ◌≤◌, Bool, true, false, ◌&&◌, ◌||◌, nat_le, nat_lt, if◌then◌else◌, List, [], ◌∷◌, ◌++◌, length, take, drop, slice_index, Option, Some, None}
 use Rattle.std.specs.Int.{next_multiple_of}
 use Rattle.no_ir.specs.declared.ending.Trap.{Trap}
 use Rattle.no_ir.specs.declared.ending.Trap.TheVariants.{BadAddress, ConstantWrite}
@@ -124,3 +124,13 @@ IsPut (Refused trap) old new at bytes = new ≡ old
 -- each page of n bytes that is present is ready to be written
 abbrev pub ArePrepared : (ℕ → Bool) → (ℕ → Bool) → ℕ → ℕ → Type 0
 ArePrepared held prepared at n = (p : ℕ) → page_of at ≤ p → p ≤ page_of (at + n - 1) → held p ≡ true → prepared p ≡ true
+
+-- ---- lists of bytes
+
+-- a list with other items from a place on
+abbrev pub splice : List ℕ → ℕ → List ℕ → List ℕ
+splice xs o bs = (take o xs ++ bs) ++ drop (o + length bs) xs
+
+-- each byte is 0
+abbrev pub AreZero : List ℕ → Type 0
+AreZero xs = (k : ℕ) → slice_index xs k ≡ 0

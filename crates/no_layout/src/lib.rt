@@ -4,7 +4,6 @@
 mod draft;
 mod extent;
 mod fault;
-mod flat;
 mod layout;
 mod measured;
 mod memory;
@@ -12,15 +11,12 @@ mod number;
 mod order;
 mod part;
 mod queries;
-mod region;
 mod sizes;
-mod splice;
 mod table;
 mod text;
 
 pub use extent::Extent;
 pub use fault::{LayoutFault, LayoutKind};
-pub use flat::FlatMemory;
 pub use layout::Layout;
 pub use memory::{Access, Memory, Regions};
 pub use order::{Big, Little, Order, get_number, orders_are_swapped, put_number};

@@ -1,9 +1,9 @@
 ghost use Rattle.std.specs.Prelude.{◌≡◌, ◌<◌, true};
 ghost use Rattle.no_layout.specs.Memory.{AreFormed, globals_start, within};
-ghost use Rattle.no_layout.specs.Flat.{IsLocated, answered, end_of, is_written, start_of};
+ghost use Rattle.no_flat.specs.Flat.{IsLocated, answered, end_of, is_written, start_of};
 
-use crate::{Access, Regions};
 use no_ir::Trap;
+use no_layout::{Access, Regions};
 
 /// A region of a program's memory.
 #[derive(Clone, Copy, Debug, PartialEq, Eq)]

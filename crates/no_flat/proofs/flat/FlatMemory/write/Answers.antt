@@ -1,8 +1,9 @@
 use Rattle.std.proofs.Common.{◌≡◌, ◌∙◌, ◌-◌, ap, arith}
 use Rattle.std.proofs.lemmas.List.{with_items_is}
-use Rattle.no_layout.specs.Flat.{splice, start_of}
-use Rattle.no_layout.proofs.FlatLaws.{put_constants, put_globals, put_heap, put_stack}
-use Rattle.no_layout.proofs.flat.FlatMemory.write.Goals as goal
+use Rattle.no_layout.specs.Memory.{splice}
+use Rattle.no_flat.specs.Flat.{start_of}
+use Rattle.no_flat.proofs.FlatLaws.{put_constants, put_globals, put_heap, put_stack}
+use Rattle.no_flat.proofs.flat.FlatMemory.write.Goals as goal
 
 pub returns-in-Constants-clause-bytes : goal.returns-in-Constants-clause-bytes
 returns-in-Constants-clause-bytes c =

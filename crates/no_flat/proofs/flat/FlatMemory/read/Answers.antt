@@ -1,6 +1,6 @@
 use Rattle.std.proofs.Common.{◌≡◌, ◌∙◌, ◌-◌, ◌+◌, sym, take, drop, length, arith}
-use Rattle.no_layout.proofs.FlatLaws.{flat_read}
-use Rattle.no_layout.proofs.flat.FlatMemory.read.Goals as goal
+use Rattle.no_flat.proofs.FlatLaws.{flat_read}
+use Rattle.no_flat.proofs.flat.FlatMemory.read.Goals as goal
 
 pub returns : goal.returns
 returns c =

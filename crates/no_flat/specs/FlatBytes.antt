@@ -1,9 +1,9 @@
 -- What a flat memory holds.
 use Rattle.std.specs.Prelude.{ℕ, List}
 use Rattle.no_layout.specs.Memory.{globals_start}
-use Rattle.no_layout.specs.Flat.{bytes_in, flat}
-use Rattle.no_layout.specs.declared.flat.FlatMemory.{FlatMemory}
-use Rattle.no_layout.specs.declared.region.Region.{Region}
+use Rattle.no_flat.specs.Flat.{bytes_in, flat}
+use Rattle.no_flat.specs.declared.flat.FlatMemory.{FlatMemory}
+use Rattle.no_flat.specs.declared.region.Region.{Region}
 
 -- the byte at an address
 abbrev pub byte_of : FlatMemory → ℕ → ℕ

@@ -1,6 +1,6 @@
 use Rattle.std.proofs.Common.{length, true, None, sym}
-use Rattle.no_layout.proofs.FlatLaws.{answer_is, write_done, write_refused}
-use Rattle.no_layout.proofs.flat.FlatMemoryMemory.put.Goals as goal
+use Rattle.no_flat.proofs.FlatLaws.{answer_is, write_done, write_refused}
+use Rattle.no_flat.proofs.flat.FlatMemoryMemory.put.Goals as goal
 
 pub returns-in-None-clause-answer : goal.returns-in-None-clause-answer
 returns-in-None-clause-answer c = answer_is c.args.self.now.regions c.args.self.now.formed c.args.addr (length c.args.bytes.now) c.requires.some None true c.in-None.ensures

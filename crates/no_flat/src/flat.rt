@@ -1,10 +1,10 @@
 ghost use Rattle.no_layout.specs.Memory.{AreFormed};
-ghost use Rattle.no_layout.specs.Flat.{AreFull};
+ghost use Rattle.no_flat.specs.Flat.{AreFull};
 
 use crate::region::{Region, answer, is_written, locate, start_of};
 use crate::splice::{overwrite, zeros};
-use crate::{Access, Memory, Regions};
 use no_ir::{NoMemory, Trap};
+use no_layout::{Access, Memory, Regions};
 use std::alloc::Global;
 
 /// A memory with all its pages, which are taken at once.
@@ -22,8 +22,8 @@ pub struct FlatMemory {
 impl FlatMemory {
     ghost use Rattle.std.specs.Prelude.{◌≡◌, ◌-◌, ℕ, IfOk, length, true};
     ghost use Rattle.no_layout.specs.Memory.{read_bytes, within, written};
-    ghost use Rattle.no_layout.specs.Flat.{IsInRegion, end_of, start_of};
-    ghost use Rattle.no_layout.specs.FlatBytes.{byte_of, region_bytes};
+    ghost use Rattle.no_flat.specs.Flat.{IsInRegion, end_of, start_of};
+    ghost use Rattle.no_flat.specs.FlatBytes.{byte_of, region_bytes};
 
     /// A memory of zeros with these ends.
     pub fn new(alloc: Global, regions: Regions) -> Result<FlatMemory, NoMemory>
@@ -96,7 +96,7 @@ impl FlatMemory {
 
 impl Memory for FlatMemory {
     ghost use Rattle.std.specs.Prelude.{true};
-    ghost use Rattle.no_layout.specs.FlatBytes.{byte_of};
+    ghost use Rattle.no_flat.specs.FlatBytes.{byte_of};
 
     ghost regions = { λ m. m.regions };
     ghost byte = { byte_of };

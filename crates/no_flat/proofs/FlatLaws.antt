@@ -2,13 +2,14 @@
 use Rattle.std.proofs.Common.{◌≡◌, ℕ, zero, suc, ◌+◌, ◌-◌, ◌<◌, ◌≤◌, inl, inr, Bool, true, false, ◌&&◌, nat_le, List, length, take, drop, Option, Some, None, refl, sym, ap, ◌∙◌, arith}
 use Rattle.std.proofs.lemmas.Bool.{and_parts, and_right, and_left, leb-true, lt-leb}
 use Rattle.no_layout.specs.Memory.{AreFormed, access, first_absent, globals_start, constants_start, heap_start, heap_end, stack_start, stack_end, page_of, page_count, read_bytes, within, written}
-use Rattle.no_layout.specs.Flat.{AreFull, AreZero, IsLocated, answered, bytes_in, end_of, flat, is_written, splice, start_of}
+use Rattle.no_layout.specs.Memory.{AreZero, splice}
+use Rattle.no_flat.specs.Flat.{AreFull, IsLocated, answered, bytes_in, end_of, flat, is_written, start_of}
 use Rattle.no_layout.specs.declared.memory.Regions.{Regions}
 use Rattle.no_layout.specs.declared.memory.Access.{Access}
 use Rattle.no_layout.specs.declared.memory.Access.TheVariants.{Done, Refused}
 use Rattle.no_ir.specs.declared.ending.Trap.TheVariants.{ConstantWrite}
-use Rattle.no_layout.specs.declared.region.Region.{Region}
-use Rattle.no_layout.specs.declared.region.Region.TheVariants.{Constants, Globals, Heap, Stack}
+use Rattle.no_flat.specs.declared.region.Region.{Region}
+use Rattle.no_flat.specs.declared.region.Region.TheVariants.{Constants, Globals, Heap, Stack}
 use Rattle.no_layout.proofs.Overlay.{read_inside, read_outside, write_inside, write_over, zeros_over}
 
 -- where all pages are present none is absent

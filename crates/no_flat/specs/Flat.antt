@@ -1,12 +1,12 @@
 -- A memory with all its pages: each region's bytes over zeros.
-use Rattle.std.specs.Prelude.{◌≡◌, ℕ, ◌+◌, ◌-◌, ◌≤◌, ◌<◌, Bool, true, false, if◌then◌else◌, List, ◌++◌, length, slice_index, take, drop, Option, Some, None}
+use Rattle.std.specs.Prelude.{◌≡◌, ℕ, ◌+◌, ◌-◌, ◌≤◌, ◌<◌, Bool, true, false, if◌then◌else◌, List, length, Option, Some, None}
 use Rattle.no_layout.specs.Memory.{constants_start, globals_start, heap_start, heap_end, stack_start, stack_end, within, written}
 use Rattle.no_ir.specs.declared.ending.Trap.TheVariants.{BadAddress, ConstantWrite}
 use Rattle.no_layout.specs.declared.memory.Regions.{Regions}
 use Rattle.no_layout.specs.declared.memory.Access.{Access}
 use Rattle.no_layout.specs.declared.memory.Access.TheVariants.{Done, Refused}
-use Rattle.no_layout.specs.declared.region.Region.{Region}
-use Rattle.no_layout.specs.declared.region.Region.TheVariants.{Constants, Globals, Heap, Stack}
+use Rattle.no_flat.specs.declared.region.Region.{Region}
+use Rattle.no_flat.specs.declared.region.Region.TheVariants.{Constants, Globals, Heap, Stack}
 
 -- the bytes of four regions, of which the globals begin at g
 unfoldable pub flat : ℕ → List ℕ → List ℕ → List ℕ → List ℕ → ℕ → ℕ
@@ -59,14 +59,6 @@ pub record AreFull (r : Regions) (cs gs hs ss : List ℕ) : Type 0 where
   pub heap : heap_start + length hs ≡ heap_end
   pub stack : stack_start + length ss ≡ stack_end
 
--- a list with other items from a place on
-abbrev pub splice : List ℕ → ℕ → List ℕ → List ℕ
-splice xs o bs = (take o xs ++ bs) ++ drop (o + length bs) xs
-
 -- all n bytes from an address on lie in one region
 abbrev pub IsInRegion : Regions → ℕ → ℕ → Type 0
 IsInRegion r at n = (region : Region) × (within (start_of r region) (end_of r region) at n ≡ true)
-
--- each byte is 0
-abbrev pub AreZero : List ℕ → Type 0
-AreZero xs = (k : ℕ) → slice_index xs k ≡ 0

@@ -1,5 +1,5 @@
 ghost use Rattle.std.specs.Prelude.{◌≡◌, ◌+◌, ◌≤◌, IfOk, length, vec_len};
-ghost use Rattle.no_layout.specs.Flat.{AreZero, splice};
+ghost use Rattle.no_layout.specs.Memory.{AreZero, splice};
 
 use no_ir::NoMemory;
 use std::alloc::Global;
