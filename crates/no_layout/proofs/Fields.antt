@@ -105,7 +105,7 @@ module _ (packed : Bool) (f : Ty → Measure) (ts : List Ty) (k : ℕ) (fits : (
   field_fits t lt e unfit =
       let b = fields_of packed (map f (take k ts)) in
       let one : on_from packed b (map f (drop k ts)) ≡ on_from packed (with_field packed b (f t)) (map f (drop (k + 1) ts)) =
-          at_drop_more (λ (us : List Ty). on_from packed b (map f us)) ts k t lt ∙ ap (λ (u : Ty). on_from packed (with_field packed b (f u)) (map f (drop (k + 1) ts))) (sym e) in
+      at_drop_more (λ (us : List Ty). on_from packed b (map f us)) ts k t lt ∙ ap (λ (u : Ty). on_from packed (with_field packed b (f u)) (map f (drop (k + 1) ts))) (sym e) in
       over_from packed (with_field packed b (f t)) (map f (drop (k + 1) ts)) (inl (and_right b.fits _ unfit)) (rw (parted ∙ one) at fits)
 
 -- where a field begins, from the numbers of those before it and its own

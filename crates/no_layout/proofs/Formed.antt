@@ -28,7 +28,7 @@ any_low b low [] h e = absurd cc
 any_low b low (x ∷ xs) h e =
     let parts = and_parts (nat_le low x) (list_all (λ y. nat_le low y) xs) h in
     elim (or_cases (b == x) (list_any (λ y. b == y) xs) e) [
-        inl same ↦ let eq : b ≡ x = eqb-true b x same in let le : low ≤ x = leb-true low x parts.0 in omega arith
+      | inl same ↦ let eq : b ≡ x = eqb-true b x same in let le : low ≤ x = leb-true low x parts.0 in omega arith
       | inr later ↦ any_low b low xs parts.1 later
     ]
 

@@ -82,34 +82,34 @@ module _ (f : ℕ → ℕ) (s : ℕ) (xs : List ℕ) (at : ℕ) (bs : List ℕ) 
       let l = len in
       let fit = fits in
       elim (cases_lt a s) [
-          inl under ↦
-              below f s (splice xs (at - s) bs) a under ∙ sym (below f s xs a under) ∙ sym (below (written f s xs) at bs a (omega arith))
+        | inl under ↦
+            below f s (splice xs (at - s) bs) a under ∙ sym (below f s xs a under) ∙ sym (below (written f s xs) at bs a (omega arith))
         | inr from ↦ elim (cases_lt a at) [
-              inl before ↦
+          | inl before ↦
+              inside f s (splice xs (at - s) bs) a from (omega (arith, l))
+              ∙ splice_before xs (at - s) bs fit (a - s) (omega arith)
+              ∙ sym (inside f s xs a from (omega arith))
+              ∙ sym (below (written f s xs) at bs a before)
+          | inr on ↦ elim (cases_lt a (at + length bs)) [
+            | inl in_it ↦
+                let place : a - s - (at - s) ≡ a - at = omega arith in
+                inside f s (splice xs (at - s) bs) a from (omega (arith, l))
+                ∙ splice_within xs (at - s) bs fit (a - s) (omega arith) (omega arith)
+                ∙ ap (λ (n : ℕ). get_or bs n 0) place
+                ∙ sym (inside (written f s xs) at bs a on in_it)
+            | inr behind ↦ elim (cases_lt a (s + length xs)) [
+              | inl still ↦
                   inside f s (splice xs (at - s) bs) a from (omega (arith, l))
-                  ∙ splice_before xs (at - s) bs fit (a - s) (omega arith)
-                  ∙ sym (inside f s xs a from (omega arith))
-                  ∙ sym (below (written f s xs) at bs a before)
-            | inr on ↦ elim (cases_lt a (at + length bs)) [
-                  inl in_it ↦
-                      let place : a - s - (at - s) ≡ a - at = omega arith in
-                      inside f s (splice xs (at - s) bs) a from (omega (arith, l))
-                      ∙ splice_within xs (at - s) bs fit (a - s) (omega arith) (omega arith)
-                      ∙ ap (λ (n : ℕ). get_or bs n 0) place
-                      ∙ sym (inside (written f s xs) at bs a on in_it)
-                | inr behind ↦ elim (cases_lt a (s + length xs)) [
-                      inl still ↦
-                          inside f s (splice xs (at - s) bs) a from (omega (arith, l))
-                          ∙ splice_behind xs (at - s) bs fit (a - s) (omega arith)
-                          ∙ sym (inside f s xs a from still)
-                          ∙ sym (above (written f s xs) at bs a behind)
-                    | inr past ↦
-                          above f s (splice xs (at - s) bs) a (omega (arith, l))
-                          ∙ sym (above f s xs a past)
-                          ∙ sym (above (written f s xs) at bs a behind)
-                  ]
-              ]
+                  ∙ splice_behind xs (at - s) bs fit (a - s) (omega arith)
+                  ∙ sym (inside f s xs a from still)
+                  ∙ sym (above (written f s xs) at bs a behind)
+              | inr past ↦
+                  above f s (splice xs (at - s) bs) a (omega (arith, l))
+                  ∙ sym (above f s xs a past)
+                  ∙ sym (above (written f s xs) at bs a behind)
+            ]
           ]
+        ]
       ]
 
   pub write_inside : written f s (splice xs (at - s) bs) ≡ written (written f s xs) at bs
@@ -126,14 +126,14 @@ module _ (f : ℕ → ℕ) (s : ℕ) (ys : List ℕ) (at : ℕ) (bs : List ℕ) 
 
   over_place : (a : ℕ) → written (written f at bs) s ys a ≡ written (written f s ys) at bs a
   over_place a = elim (cases_lt a s) [
-      inl under ↦ below (written f at bs) s ys a under ∙ same a (below f s ys a under)
+    | inl under ↦ below (written f at bs) s ys a under ∙ same a (below f s ys a under)
     | inr from ↦ elim (cases_lt a (s + length ys)) [
-          inl still ↦
-              inside (written f at bs) s ys a from still
-              ∙ sym (inside f s ys a from still)
-              ∙ sym (untouched (written f s ys) a (in_both a from still))
-        | inr past ↦ above (written f at bs) s ys a past ∙ same a (above f s ys a past)
-      ]
+      | inl still ↦
+          inside (written f at bs) s ys a from still
+          ∙ sym (inside f s ys a from still)
+          ∙ sym (untouched (written f s ys) a (in_both a from still))
+      | inr past ↦ above (written f at bs) s ys a past ∙ same a (above f s ys a past)
+    ]
   ]
     where
       same : (a : ℕ) → written f s ys a ≡ f a → written f at bs a ≡ written (written f s ys) at bs a
@@ -148,9 +148,9 @@ zeros_over s xs zero' = fun_ext (λ a. at_zero a)
   where
     at_zero : (a : ℕ) → written (λ b. 0) s xs a ≡ 0
     at_zero a = elim (cases_lt a s) [
-        inl under ↦ below (λ b. 0) s xs a under
+      | inl under ↦ below (λ b. 0) s xs a under
       | inr from ↦ elim (cases_lt a (s + length xs)) [
-            inl still ↦ inside (λ b. 0) s xs a from still ∙ zero' (a - s)
-          | inr past ↦ above (λ b. 0) s xs a past
-        ]
+        | inl still ↦ inside (λ b. 0) s xs a from still ∙ zero' (a - s)
+        | inr past ↦ above (λ b. 0) s xs a past
+      ]
     ]

@@ -17,11 +17,11 @@ split_whole : (p : ℕ → Bool) (xs : List ℕ) → length xs ≤ position_or_l
 split_whole p [] h = refl
 split_whole p (x ∷ xs) h =
     elim (cases_Bool (p x)) [
-        inl passes ↦ absurd (let e : position_or_len p (x ∷ xs) ≡ 0 = rw passes refl in omega arith)
+      | inl passes ↦ absurd (let e : position_or_len p (x ∷ xs) ≡ 0 = rw passes refl in omega arith)
       | inr fails ↦
-            let e : position_or_len p (x ∷ xs) ≡ 1 + position_or_len p xs = rw fails refl in
-            let ih : slice_split p xs ≡ xs ∷ [] = split_whole p xs (omega arith) in
-            rw (slice_split-cons_no p x xs fails, ih) refl
+          let e : position_or_len p (x ∷ xs) ≡ 1 + position_or_len p xs = rw fails refl in
+          let ih : slice_split p xs ≡ xs ∷ [] = split_whole p xs (omega arith) in
+          rw (slice_split-cons_no p x xs fails, ih) refl
     ]
 
 pub split_none : (p : ℕ → Bool) (xs : List ℕ) → position p xs ≡ None → slice_split p xs ≡ xs ∷ []

@@ -52,7 +52,10 @@ impl Draft {
         ensures formed { IfOk result (λ layout. IsTrue (is_formed layout)) }
     {
         match self.order {
-            None => Err(LayoutFault { kind: LayoutKind::NoOrder, at: 0 }),
+            None => Err(LayoutFault {
+                kind: LayoutKind::NoOrder,
+                at: 0,
+            }),
             Some(big) => {
                 let int_align = self.int_align;
                 Ok(Layout {

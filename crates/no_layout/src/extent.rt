@@ -35,11 +35,26 @@ pub fn integer(layout: &Layout, width: u8) -> Extent
     ensures { Agrees result (measure (int_size width) (int_align layout.now width) true) }
 {
     match width {
-        1 => Extent { size: 1, align: align_at(layout, 0) },
-        8 => Extent { size: 1, align: align_at(layout, 1) },
-        16 => Extent { size: 2, align: align_at(layout, 2) },
-        32 => Extent { size: 4, align: align_at(layout, 3) },
-        64 => Extent { size: 8, align: align_at(layout, 4) },
+        1 => Extent {
+            size: 1,
+            align: align_at(layout, 0),
+        },
+        8 => Extent {
+            size: 1,
+            align: align_at(layout, 1),
+        },
+        16 => Extent {
+            size: 2,
+            align: align_at(layout, 2),
+        },
+        32 => Extent {
+            size: 4,
+            align: align_at(layout, 3),
+        },
+        64 => Extent {
+            size: 8,
+            align: align_at(layout, 4),
+        },
         _ => Extent { size: 0, align: 1 },
     }
 }
@@ -71,7 +86,10 @@ pub fn array(count: u64, element: Extent) -> Option<Extent>
 {
     let size = count.checked_mul(stride(element))?;
     if size <= SIZE_LIMIT {
-        Some(Extent { size, align: element.align })
+        Some(Extent {
+            size,
+            align: element.align,
+        })
     } else {
         None
     }
@@ -85,7 +103,11 @@ pub fn place_after(packed: bool, end: u64, align: u64) -> u64
     ensures place { result ≡ place_after packed end align }
     ensures small { result ≤ end + 7 }
 {
-    if packed { end } else { end.next_multiple_of(align) }
+    if packed {
+        end
+    } else {
+        end.next_multiple_of(align)
+    }
 }
 
 /// The end of the fields and the greatest of their alignments, with one field more, where it is not too large.
@@ -96,7 +118,10 @@ pub fn with_field(packed: bool, all: Extent, field: Extent) -> Option<Extent>
 {
     let size = place_after(packed, all.size, field.align) + field.size;
     if size <= SIZE_LIMIT {
-        Some(Extent { size, align: all.align.max(field.align) })
+        Some(Extent {
+            size,
+            align: all.align.max(field.align),
+        })
     } else {
         None
     }
@@ -108,11 +133,17 @@ pub fn whole(packed: bool, all: Extent) -> Option<Extent>
     ensures { IsMeasured result (whole packed (reached all)) }
 {
     if packed {
-        return Some(Extent { size: all.size, align: 1 });
+        return Some(Extent {
+            size: all.size,
+            align: 1,
+        });
     }
     let size = all.size.next_multiple_of(all.align);
     if size <= SIZE_LIMIT {
-        Some(Extent { size, align: all.align })
+        Some(Extent {
+            size,
+            align: all.align,
+        })
     } else {
         None
     }

@@ -21,3 +21,8 @@ pub use layout::Layout;
 pub use memory::{Access, Memory, Regions};
 pub use order::{Big, Little, Order, get_number, orders_are_swapped, put_number};
 pub use sizes::{Sizes, SizesFault};
+
+#[cfg(test)]
+mod size_tests;
+#[cfg(test)]
+mod tests;

@@ -29,8 +29,11 @@ pub trait Memory: Drop {
     ghost use Rattle.no_layout.specs.Memory.{access, AreFormed, ArePrepared, IsGot, IsPut};
 
     ghost regions: { Self → Regions };
+
     ghost byte: { Self → ℕ → ℕ };
+
     ghost held: { Self → ℕ → Bool };
+
     ghost prepared: { Self → ℕ → Bool };
 
     /// Where constants and globals end.

@@ -7,9 +7,11 @@ use byteorder::{BigEndian, ByteOrder, LittleEndian};
 /// A byte order: how numbers of 1, 2, 4 or 8 bytes stand in memory.
 pub trait Order {
     ghost number_of: { List ℕ → ℕ };
+
     ghost bytes_of: { ℕ → ℕ → List ℕ };
     /// What was put is got back.
     ghost gets_put: { (n v : ℕ) → v < 256 ^ n → number_of (bytes_of n v) ≡ v };
+
     ghost length_bytes: { (n v : ℕ) → length (bytes_of n v) ≡ n };
 
     /// The number in these bytes.
@@ -37,8 +39,11 @@ impl Order for Big {
     ghost use Rattle.no_layout.specs.Laws.{big_gets_put, big_length};
 
     ghost number_of = { big_of };
+
     ghost bytes_of = { bytes_high_first };
+
     ghost gets_put = { big_gets_put };
+
     ghost length_bytes = { big_length };
 
     #[tactic(auto, using(crate::specs::Laws::big_same))]
@@ -57,8 +62,11 @@ impl Order for Little {
     ghost use Rattle.no_layout.specs.Laws.{little_gets_put, little_length};
 
     ghost number_of = { little_of };
+
     ghost bytes_of = { bytes_low_first 0 };
+
     ghost gets_put = { little_gets_put };
+
     ghost length_bytes = { little_length };
 
     #[tactic(auto, using(crate::specs::Laws::little_same))]
@@ -77,7 +85,11 @@ pub fn get_number(big: bool, bytes: &[u8]) -> u64
     requires { IsWidth (length bytes.now) }
     ensures { result ≡ number_of big bytes.now }
 {
-    if big { Big::get(bytes) } else { Little::get(bytes) }
+    if big {
+        Big::get(bytes)
+    } else {
+        Little::get(bytes)
+    }
 }
 
 /// Makes these bytes those of a number that fits them, in the order of a layout.
@@ -99,5 +111,4 @@ pub fn orders_are_swapped()
     ensures reversed { (bs : List ℕ) → big_of bs ≡ little_of (reverse bs) }
     ensures big { (bs : List ℕ) → All (λ b. b < 256) bs → big_of bs ≡ swapped (length bs) (little_of bs) }
     ensures little { (bs : List ℕ) → All (λ b. b < 256) bs → little_of bs ≡ swapped (length bs) (big_of bs) }
-{
-}
+{}

@@ -4,8 +4,8 @@ ghost use Rattle.no_layout.specs.Field.{fields_of};
 ghost use Rattle.no_layout.specs.Stated.{is_sound};
 ghost use Rattle.no_layout.specs.Part.{has_no_effect, is_alignment, integer_of, integer_part, named_part, part_of, pointer_of, pointer_part, space_of};
 
-use crate::number::{Field, cut, next_field, number};
 use crate::LayoutKind;
+use crate::number::{Field, cut, next_field, number};
 
 /// What one part of a layout string states.
 #[derive(Clone, Copy, Debug, PartialEq, Eq)]
@@ -21,6 +21,7 @@ pub enum Part {
 }
 
 const BIG: &[u8] = b"E";
+
 const LITTLE: &[u8] = b"e";
 
 /// What a part states, or why it is none.
@@ -100,7 +101,13 @@ fn pointer(fields: Option<&[u8]>) -> Result<Part, LayoutKind>
 }
 
 /// A part of pointers of a width that is allowed, from its other fields.
-fn sized(width: u8, align: Field, preferred: Field, index: Field, more: Field) -> Result<Part, LayoutKind>
+fn sized(
+    width: u8,
+    align: Field,
+    preferred: Field,
+    index: Field,
+    more: Field,
+) -> Result<Part, LayoutKind>
     requires { IsTrue (width == 32 || width == 64) }
     ensures part { result ≡ pointer_of width align preferred index more }
     ensures sound { IfOk result (λ part. IsTrue (is_sound part)) }

@@ -1,4 +1,4 @@
-ghost use Rattle.std.specs.Prelude.{◌≡◌, ◌+◌, ◌<◌, ◌≤◌, IsTrue, length, map, slice_get, take, true};
+ghost use Rattle.std.specs.Prelude.{◌≡◌, ◌+◌, ◌<◌, ◌≤◌, ◌↔◌, IsTrue, length, map, slice_get, take, true};
 ghost use Rattle.no_layout.specs.Text.{is_formed};
 ghost use Rattle.no_layout.specs.Sizes.{Fits, HasField, fields_of, measure_of, offset_in, offset_of, size_limit, type_align, type_size, type_stride, whole};
 ghost use Rattle.no_layout.specs.Measured.{Agrees};
@@ -56,9 +56,24 @@ impl Layout {
         ensures small { result ≤ size_limit + 7 }
     {
         match t {
-            Ty::Struct(packed, fields) => self.place_of(sizes, *packed, fields.as_slice(), field as usize),
+            Ty::Struct(packed, fields) => self.place_of(
+                sizes,
+                *packed,
+                fields.as_slice(),
+                field as usize,
+            ),
             _ => 0,
         }
+    }
+
+    /// Whether a type, and each type inside it, has at most `0x1000_0000` bytes.
+    ///
+    /// The sizes are those of the named types under this layout.
+    pub fn fits(&self, sizes: &Sizes, t: &Ty) -> bool
+        requires { IsTrue (is_formed self.now) }
+        ensures { IsTrue result ↔ Fits self.now sizes.now t.now }
+    {
+        self.measured(sizes, t).is_some()
     }
 
     /// The numbers of a type that fits.

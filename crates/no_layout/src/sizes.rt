@@ -37,7 +37,9 @@ impl Sizes {
     pub(crate) fn new(alloc: Global) -> Sizes
         ensures { result ≡ [] }
     {
-        Sizes { extents: Vec::new(alloc) }
+        Sizes {
+            extents: Vec::new(alloc),
+        }
     }
 
     /// Adds the numbers of the next type.
