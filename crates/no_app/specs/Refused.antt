@@ -21,8 +21,8 @@ Finds view None read = read ≡ None
 
 -- a name and an instruction are at the end
 pub record Added (names names' : List (List ℕ)) (instrs instrs' : List Instr) (a : List ℕ × Op) : Type 0 where
-  pub names : names' ≡ names ++ a.0 ∷ []
-  pub instrs : instrs' ≡ instrs ++ plain (Some (length names)) a.1 ∷ []
+  pub name : names' ≡ names ++ a.0 ∷ []
+  pub instr : instrs' ≡ instrs ++ plain (Some (length names)) a.1 ∷ []
 
 -- a line was read, and what it assigns is at the end
 abbrev pub Adds : Result (Unit {0}) Refusal → List (List ℕ) → List (List ℕ) → List Instr → List Instr → Option (List ℕ × Op) → Type 0

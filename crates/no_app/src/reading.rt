@@ -102,7 +102,7 @@ fn are_name_bytes(text: &[u8]) -> bool
 }
 
 /// The number that digits spell, at most `most`.
-fn number(most: u64, text: &[u8]) -> Option<u64>
+pub(crate) fn number(most: u64, text: &[u8]) -> Option<u64>
     requires { most < 2 ^ 33 }
     ensures value { result ≡ number_of most text.now }
     ensures within { IfSome result (λ n. n ≤ most) }

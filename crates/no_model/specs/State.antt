@@ -1,5 +1,5 @@
 -- States of a run, and what operands are in them.
-use Rattle.std.specs.Prelude.{ℕ, ◌+◌, Bool, true, false, List, [], ◌∷◌, length, replicate, slice_get, slice_set, slice_index, Option, Some, None, position, unwrap_or, option_and_then, bytes_eq, codes}
+use Rattle.std.specs.Prelude.{ℕ, ◌+◌, Bool, true, false, List, [], ◌∷◌, length, replicate, slice_get, slice_set, slice_index, Option, Some, None, bytes_eq, codes, if◌then◌else◌}
 use Rattle.no_ir.specs.declared.constant.Const.{Const}
 use Rattle.no_ir.specs.declared.constant.Const.TheVariants as const
 use Rattle.no_ir.specs.declared.constant.Symbol.{Symbol}
@@ -59,9 +59,13 @@ abbrev pub callee : Module → Operand → Option Function
 callee m (operand.Const c) = constant_function m c
 callee m (operand.Reg r) = None
 
--- the number of the function main
+-- the number of the first function of the name main, after n others; 0 where there is none
+abbrev pub main_from : ℕ → List Function → ℕ
+main_from n [] = 0
+main_from n (f ∷ more) = if bytes_eq f.name (codes "main") then n else main_from (n + 1) more
+
 abbrev pub main_number : Module → ℕ
-main_number m = unwrap_or (position (λ f. bytes_eq f.name (codes "main")) m.functions) 0
+main_number m = main_from 0 m.functions
 
 abbrev pub register_count : Option Function → ℕ
 register_count None = 0

@@ -1,5 +1,5 @@
 -- One step of a run: a definition for each instruction and external, and one that dispatches.
-use Rattle.std.specs.Prelude.{ℕ, ◌+◌, ◌%◌, ◌^◌, Bool, true, false, ◌&&◌, List, [], ◌∷◌, Option, Some, None, bytes_eq, codes, if◌then◌else◌}
+use Rattle.std.specs.Prelude.{ℕ, ◌+◌, ◌%◌, ◌^◌, Bool, true, false, ◌&&◌, ◌==◌, List, [], ◌∷◌, Option, Some, None, bytes_eq, codes, if◌then◌else◌}
 use Rattle.no_ir.specs.declared.types.Ty.{Ty}
 use Rattle.no_ir.specs.declared.ending.End.{End}
 use Rattle.no_ir.specs.declared.ending.End.TheVariants.{Exited, Trapped}
@@ -25,9 +25,9 @@ pub data Next : Type 0 where
 abbrev pub nothing : Next
 nothing = Ends (Trapped Unreachable)
 
--- the sum modulo 2 ^ w (LLVM Language Reference, "add Instruction")
-abbrev pub act_add : Option ℕ → ℕ → Operand → Operand → Frame → Next
-act_add into w a b f = Goes [] (assigned into ((value f.registers a + value f.registers b) % 2 ^ w) f)
+-- the sum modulo 2 ^ 32, of operands of 32 bits (LLVM Language Reference, "add Instruction")
+abbrev pub act_add : Option ℕ → Operand → Operand → Frame → Next
+act_add into a b f = Goes [] (assigned into ((value f.registers a + value f.registers b) % 2 ^ 32) f)
 
 -- the low byte is written, and given back
 abbrev pub act_putchar : Option ℕ → Operand → Frame → Next
@@ -50,7 +50,7 @@ act_called None into args f = nothing
 act_called (Some g) into args f = act_external g into args f
 
 abbrev pub act_op : Module → Option ℕ → Op → Frame → Next
-act_op m into (op.Binary by.Add w a b) f = act_add into w a b f
+act_op m into (op.Binary by.Add w a b) f = if w == 32 then act_add into a b f else nothing
 act_op m into (op.Call t g args) f = act_called (callee m g) into args f
 act_op m into (op.Ret (Some x)) f = act_return x.1 f
 act_op m into _ f = nothing

@@ -4,11 +4,11 @@ use no_ir::List;
 #[derive(Debug, Drop)]
 pub struct Frame {
     /// The number of the function.
-    pub function: u32,
+    pub function: u64,
     /// The number of the block.
-    pub block: u32,
+    pub block: u64,
     /// The place of the next instruction in the block.
-    pub at: u32,
+    pub at: u64,
     /// A number for each register of the function.
     pub registers: List<u64>,
 }
