@@ -33,14 +33,15 @@ impl<'a> HostFiles<'a> {
     pub fn new(rt: &'a HostRuntime) -> HostFiles<'a> {
         HostFiles { rt, faults: 0 }
     }
+}
 
-    fn read_file(&mut self, name: &str, limit: usize, into: &mut Vec<u8>) -> io::Result<()>
-        requires { vec_len into.old ≤ limit }
-        ensures { vec_len into.new ≤ limit }
-    {
-        let mut file = File::open(self.rt, name)?;
-        read_up_to(&mut file, limit, into)
-    }
+/// Adds a file's first bytes to an empty buffer, up to the limit.
+fn read_file(rt: &HostRuntime, name: &str, limit: usize, into: &mut Vec<u8>) -> io::Result<()>
+    requires { vec_len into.old ≤ limit }
+    ensures { vec_len into.new ≤ limit }
+{
+    let mut file = File::open(rt, name)?;
+    read_up_to(&mut file, limit, into)
 }
 
 impl Files for HostFiles<'_> {
@@ -52,7 +53,7 @@ impl Files for HostFiles<'_> {
 
     fn read(&mut self, name: &str, limit: u32, into: &mut Vec<u8>) -> FileAnswer {
         into.clear();
-        if self.read_file(name, limit as usize, into).is_ok() {
+        if read_file(self.rt, name, limit as usize, into).is_ok() {
             return FileAnswer::Done;
         }
         into.clear();
