@@ -11,6 +11,8 @@ mod sink;
 mod source;
 mod spawner;
 mod sure;
+#[cfg(test)]
+mod tests;
 mod turns;
 mod wire;
 
