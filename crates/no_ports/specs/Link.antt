@@ -1,5 +1,5 @@
 -- What a call on a wire did to its sessions, by cases on its answer.
-use Rattle.std.specs.Prelude.{◌≡◌, ℕ, ◌<◌, ◌≤◌, ◌↔◌, Bool, true, false, Option, Some, None, List, [], ◌∷◌, ◌++◌, length, take, IfSome, IsSome, IsSomeAnd}
+use Rattle.std.specs.Prelude.{◌≡◌, ℕ, ◌<◌, ◌≤◌, ◌↔◌, Bool, true, false, Option, Some, List, [], ◌∷◌, ◌++◌, length, take, IfSome, IsSome, IsSomeAnd}
 use Rattle.no_ports.specs.Meanings.{Adds}
 use Rattle.no_ports.specs.declared.wire.Opened.{Opened}
 use Rattle.no_ports.specs.declared.wire.Opened.TheVariants as opened

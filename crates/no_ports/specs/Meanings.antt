@@ -1,5 +1,5 @@
 -- What a call on a source, a sink or a store of files did, by cases on its answer.
-use Rattle.std.specs.Prelude.{◌≡◌, ℕ, ◌+◌, ◌-◌, ◌^◌, ◌<◌, ◌≤◌, min, Option, Some, None, List, [], ◌++◌, length, take, drop, IfSome, IsSome}
+use Rattle.std.specs.Prelude.{◌≡◌, ℕ, ◌+◌, ◌-◌, ◌^◌, ◌<◌, ◌≤◌, min, Option, Some, List, [], ◌++◌, length, take, drop, IfSome, IsSome}
 use Rattle.no_ports.specs.declared.source.Took.{Took}
 use Rattle.no_ports.specs.declared.source.Took.TheVariants as took
 use Rattle.no_ports.specs.declared.sink.Gave.{Gave}

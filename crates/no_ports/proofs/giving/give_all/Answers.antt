@@ -1,4 +1,4 @@
-use Rattle.std.proofs.Common.{◌≡◌, ℕ, ◌≤◌, ◌+◌, ◌-◌, List, length, take, drop, arith, length-take, length-drop}
+use Rattle.std.proofs.Common.{ℕ, ◌≤◌, ◌+◌, ◌-◌, List, length, take, drop, arith, length-take, length-drop}
 use Rattle.no_ports.proofs.Adding.{adds_more}
 use Rattle.no_ports.proofs.giving.give_all.Goals as goal
 
