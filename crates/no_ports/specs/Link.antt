@@ -1,5 +1,5 @@
 -- What a call on a wire did to its sessions, by cases on its answer.
-use Rattle.std.specs.Prelude.{◌≡◌, ℕ, ◌<◌, ◌≤◌, ◌↔◌, Bool, true, false, Option, Some, None, List, [], ◌∷◌, ◌++◌, length, take, IfSome, IsSome, IsSomeAnd}
+use Rattle.std.specs.Prelude.{◌≡◌, ℕ, ◌<◌, ◌≤◌, ◌↔◌, Bool, true, false, Option, Some, List, [], ◌∷◌, ◌++◌, length, take, IfSome, IsSome, IsSomeAnd}
 use Rattle.no_ports.specs.Meanings.{Adds}
 use Rattle.no_ports.specs.declared.wire.Opened.{Opened}
 use Rattle.no_ports.specs.declared.wire.Opened.TheVariants as opened
@@ -27,19 +27,22 @@ fresh_opened opened.Open fresh = false
 fresh_opened opened.Failed fresh = fresh
 fresh_opened opened.NoMemory fresh = fresh
 
--- a session that begins has nothing sent, or nothing got; where none began, the last one's bytes stay
+-- a session that begins has nothing sent, or nothing got; where none began, the bytes stay
 abbrev pub Begins : Opened → Option (List ℕ) → Option (List ℕ) → Type 0
 Begins opened.Open old new = IfSome old (λ _. new ≡ Some [])
 Begins opened.Failed old new = new ≡ old
 Begins opened.NoMemory old new = new ≡ old
 
 -- the last session joins the past ones, where all are told and there was one
-abbrev pub Joins : Bool → Option (List Session) → Option (List ℕ) → Option (List ℕ) → Option (List Session) → Type 0
+abbrev pub Joins : Bool → Option (List Session) → Option (List ℕ) → Option (List ℕ)
+    → Option (List Session) → Type 0
 Joins true past sent got new = IfSome past (λ p. new ≡ Some p)
-Joins false past sent got new = IfSome past (λ p. IsSome new × IfSome sent (λ s. IfSome got (λ g. new ≡ Some (p ++ record { sent = s; got = g } ∷ []))))
+Joins false past sent got new = IfSome past (λ p.
+    IsSome new × IfSome sent (λ s. IfSome got (λ g. new ≡ Some (p ++ record { sent = s; got = g } ∷ []))))
 
 -- the past sessions after a call that opens one on a wire that was fresh or not
-abbrev pub Retires : Opened → Bool → Option (List Session) → Option (List ℕ) → Option (List ℕ) → Option (List Session) → Type 0
+abbrev pub Retires : Opened → Bool → Option (List Session) → Option (List ℕ) → Option (List ℕ)
+    → Option (List Session) → Type 0
 Retires opened.Open fresh past sent got new = Joins fresh past sent got new
 Retires opened.Failed fresh past sent got new = new ≡ past
 Retires opened.NoMemory fresh past sent got new = new ≡ past
@@ -108,11 +111,15 @@ abbrev pub NeverMends : Judgement → Judgement → Type 0
 NeverMends Untold new = Unit {0}
 NeverMends (Told claim) new = IsTold new × ((text : List ℕ) → IsYes new text → claim text)
 
--- all is told, and a take on these bytes sent and got, after which those were got, broke the order of the text's module
-abbrev pub BreaksOrder : (List ℕ → List ℕ → List ℕ → List ℕ → Type 0) → Option (List ℕ) → Option (List ℕ) → Option (List ℕ) → List ℕ → Type 0
-BreaksOrder breaks sent got after text = IsSomeAnd sent (λ s. IsSomeAnd got (λ g. IsSomeAnd after (λ h. breaks text s g h)))
+-- all is told, and a take on these bytes sent and got, after which those were got, broke the order
+-- of the text's module
+abbrev pub BreaksOrder : (List ℕ → List ℕ → List ℕ → List ℕ → Type 0)
+    → Option (List ℕ) → Option (List ℕ) → Option (List ℕ) → List ℕ → Type 0
+BreaksOrder breaks sent got after text =
+    IsSomeAnd sent (λ s. IsSomeAnd got (λ g. IsSomeAnd after (λ h. breaks text s g h)))
 
 -- what is told stays told; yes only where it was yes before and this take broke no order
 abbrev pub KeepsOrder : Judgement → Judgement → (List ℕ → Type 0) → Type 0
 KeepsOrder Untold new broke = Unit {0}
-KeepsOrder (Told claim) new broke = IsTold new × ((text : List ℕ) → IsYes new text → claim text × (broke text → ⊥))
+KeepsOrder (Told claim) new broke =
+    IsTold new × ((text : List ℕ) → IsYes new text → claim text × (broke text → ⊥))

@@ -1,5 +1,5 @@
 -- What a call on a source, a sink or a store of files did, by cases on its answer.
-use Rattle.std.specs.Prelude.{◌≡◌, ℕ, ◌+◌, ◌-◌, ◌^◌, ◌<◌, ◌≤◌, min, Option, Some, None, List, [], ◌++◌, length, take, drop, IfSome, IsSome}
+use Rattle.std.specs.Prelude.{◌≡◌, ℕ, ◌+◌, ◌-◌, ◌^◌, ◌<◌, ◌≤◌, min, Option, Some, List, [], ◌++◌, length, take, drop, IfSome, IsSome}
 use Rattle.no_ports.specs.declared.source.Took.{Took}
 use Rattle.no_ports.specs.declared.source.Took.TheVariants as took
 use Rattle.no_ports.specs.declared.sink.Gave.{Gave}
@@ -27,7 +27,8 @@ Gives gave.NoMemory piece old new = Adds old new []
 
 -- where it is told what is left, its first n bytes are now the first n of the buffer
 abbrev pub Moves : ℕ → List ℕ → Option (List ℕ) → Option (List ℕ) → Type 0
-Moves n buf old new = IfSome old (λ left. (n ≤ length left) × (take n buf ≡ take n left) × (new ≡ Some (drop n left)))
+Moves n buf old new = IfSome old (λ left.
+    (n ≤ length left) × (take n buf ≡ take n left) × (new ≡ Some (drop n left)))
 
 -- what is left of a source after a take: n bytes less, or as much; at the end nothing is left
 abbrev pub Takes : Took → List ℕ → Option (List ℕ) → Option (List ℕ) → Type 0
@@ -37,7 +38,8 @@ Takes took.Failed buf old new = IfSome old (λ left. new ≡ Some left)
 
 -- what a file's reader gets: the file's first bytes up to the limit, or nothing after a fault
 abbrev pub Reads : FileAnswer → ℕ → List ℕ → Option (List ℕ) → Type 0
-Reads answer.Done limit into contents = (length into ≤ limit) × IfSome contents (λ bytes. into ≡ take limit bytes)
+Reads answer.Done limit into contents =
+    (length into ≤ limit) × IfSome contents (λ bytes. into ≡ take limit bytes)
 Reads answer.Failed limit into contents = into ≡ []
 Reads answer.NoMemory limit into contents = into ≡ []
 

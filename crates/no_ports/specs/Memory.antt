@@ -1,5 +1,5 @@
--- What the forms in memory do: which of their calls fail, and that each other call moves all that fits.
-use Rattle.std.specs.Prelude.{◌≡◌, ℕ, ◌+◌, ◌-◌, ◌^◌, ◌==◌, min, Bool, true, false, if◌then◌else◌, Option, Some, None, List, [], ◌∷◌, ◌++◌, length, take, drop, Vec, String, string_bytes, unwrap_or}
+-- What the forms in memory do: which calls fail, and that each other call moves all that fits.
+use Rattle.std.specs.Prelude.{◌≡◌, ℕ, ◌+◌, ◌-◌, ◌^◌, ◌==◌, min, Bool, true, false, if◌then◌else◌, Option, Some, None, List, [], ◌∷◌, ◌++◌, length, drop, Vec, String, string_bytes}
 use Rattle.std.specs.List.{list_any}
 use Rattle.std.specs.Str.{bytes_eq}
 use Rattle.std.specs.declared.alloc.Global.{Global}
@@ -32,7 +32,11 @@ is_due c = list_any (λ n. n == one_more c.made) c.failing
 
 -- after the next call
 abbrev pub after_call : Calls → Calls
-after_call c = record { failing = c.failing; made = one_more c.made; failed = if is_due c then one_more c.failed else c.failed }
+after_call c = record {
+  failing = c.failing;
+  made = one_more c.made;
+  failed = if is_due c then one_more c.failed else c.failed;
+}
 
 -- ---- sources
 
@@ -55,7 +59,10 @@ take_answer s room = if is_due s.calls then took.Failed else taken room s.left
 
 -- the source after a take, where some calls fail
 abbrev pub supply_after : Supply → ℕ → Supply
-supply_after s room = record { left = if is_due s.calls then s.left else left_after room s.left; calls = after_call s.calls }
+supply_after s room = record {
+  left = if is_due s.calls then s.left else left_after room s.left;
+  calls = after_call s.calls;
+}
 
 -- ---- sinks
 
@@ -64,7 +71,7 @@ pub record Store : Type 0 where
   pub held : List ℕ
   pub calls : Calls
 
--- a piece is added whole; it fails exactly where the call is to fail; without memory nothing is added
+-- a piece is added whole; the call fails exactly where it is to; without memory nothing is added
 abbrev pub Stores : Gave → Bool → List ℕ → List ℕ → List ℕ → Type 0
 Stores (gave.Gave n) due piece old new = (due ≡ false) × (n ≡ length piece) × (new ≡ old ++ piece)
 Stores gave.Failed due piece old new = (due ≡ true) × (new ≡ old)
@@ -90,12 +97,17 @@ entries (file ∷ files) = record { name = string_bytes file.0; bytes = file.1.i
 -- the bytes of the first entry of a name
 abbrev pub file_of : List Entry → List ℕ → Option (List ℕ)
 file_of [] name = None
-file_of (entry ∷ rest) name = if bytes_eq entry.name name then Some entry.bytes else file_of rest name
+file_of (entry ∷ rest) name =
+    if bytes_eq entry.name name then Some entry.bytes else file_of rest name
 
 -- a name that is not there reads as an empty file
 abbrev pub read_as : Option (List ℕ) → List ℕ
 read_as None = []
 read_as (Some bytes) = bytes
+
+-- what files in memory tell of a name
+abbrev pub contents_of : List Entry → List ℕ → Option (List ℕ)
+contents_of files name = Some (read_as (file_of files name))
 
 -- a call on files fails exactly where it is to fail
 abbrev pub Answers : FileAnswer → Bool → Type 0

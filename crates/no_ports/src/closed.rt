@@ -6,7 +6,8 @@ use crate::spawner::{Spawner, Started};
 use crate::wire::{Opened, Wire, WireGave, WireTook};
 use std::marker::Model;
 
-/// A wire on which no session begins: each call but `close` fails, and is counted. It is seen as that count.
+/// A wire on which no session begins: each call but `close` fails, and is counted. Contracts see that
+/// count.
 #[derive(Debug, Drop)]
 pub struct ClosedWire {
     failed: u64,
@@ -113,7 +114,7 @@ impl Wire for ClosedWire {
     ghost blank = { λ _ _. record { nothing_sent = refl; nothing_got = refl; none_past = refl } };
 }
 
-/// A spawner that starts nothing: each call fails, and is counted. It is seen as that count.
+/// A spawner that starts nothing: each call fails, and is counted. Contracts see that count.
 #[derive(Debug, Drop)]
 pub struct ClosedSpawner {
     failed: u64,

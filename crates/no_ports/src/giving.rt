@@ -14,10 +14,12 @@ pub enum GaveAll {
     NoMemory,
 }
 
-/// Writes all bytes to a sink, in pieces of at most 4,096. Whatever the answer, a prefix of them was written.
+/// Writes all bytes to a sink, in pieces of at most 4,096. Whatever the answer, a prefix of them was
+/// written.
 pub fn give_all<O: Sink>(out: &mut O, bytes: &[u8]) -> GaveAll
     ensures done { result ≡ GaveAll.Done → Adds (O.held out.old) (O.held out.new) bytes.now }
     ensures prefix { AddsPrefix (O.held out.old) (O.held out.new) bytes.now }
+    ensures empty { length bytes.now ≡ 0 → result ≡ GaveAll.Done }
     ensures later { O.faults out.old ≤ O.faults out.new }
     ensures failed { result ≡ GaveAll.Failed → Rose (O.faults out.old) (O.faults out.new) }
 {

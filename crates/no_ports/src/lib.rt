@@ -1,4 +1,4 @@
-//! The outside world as traits: what a source, a sink, files, a wire and a spawner do, and forms of them in memory.
+//! The outside world as traits: sources, sinks, files, wires and spawners, and forms of them in memory.
 #![tactic(auto)]
 
 mod closed;
@@ -11,6 +11,8 @@ mod sink;
 mod source;
 mod spawner;
 mod sure;
+#[cfg(test)]
+mod tests;
 mod turns;
 mod wire;
 

@@ -1,6 +1,6 @@
 ghost use Rattle.std.specs.Prelude.{◌≡◌, ◌≢◌, ℕ, ◌≤◌, List, Some, false, option_copied};
 ghost use Rattle.no_ports.specs.Meanings.{Rose, Reads, Writes};
-ghost use Rattle.no_ports.specs.Memory.{no_calls, is_due, after_call, Answers, entries, file_of, read_as};
+ghost use Rattle.no_ports.specs.Memory.{no_calls, is_due, after_call, Answers, entries, file_of, contents_of};
 
 use crate::files::{FileAnswer, Files};
 use crate::turns::Turns;
@@ -41,13 +41,14 @@ impl MemFiles {
 }
 
 impl Files for MemFiles {
-    ghost contents = { λ s name. Some (read_as (file_of s.files name)) };
+    ghost contents = { λ s name. contents_of s.files name };
 
     ghost faults = { λ s. s.calls.failed };
 
     fn read(&mut self, name: &str, limit: u32, into: &mut Vec<u8>) -> FileAnswer
-        ensures read { Reads result limit into.new.items (Some (read_as (file_of self.old.files name.now))) }
-        ensures same { (q : List ℕ) → Some (read_as (file_of self.new.files q)) ≡ Some (read_as (file_of self.old.files q)) }
+        ensures read { Reads result limit into.new.items (contents_of self.old.files name.now) }
+        ensures same { (q : List ℕ) →
+            contents_of self.new.files q ≡ contents_of self.old.files q }
         ensures later { self.old.calls.failed ≤ self.new.calls.failed }
         ensures failed { result ≡ FileAnswer.Failed → Rose self.old.calls.failed self.new.calls.failed }
         ensures answers { Answers result (is_due self.old.calls) }
@@ -62,13 +63,16 @@ impl Files for MemFiles {
     }
 
     fn write(&mut self, name: &str, bytes: &[u8]) -> FileAnswer
-        ensures written { Writes result bytes.now (Some (read_as (file_of self.old.files name.now))) (Some (read_as (file_of self.new.files name.now))) }
-        ensures others { (q : List ℕ) → q ≢ name.now → Some (read_as (file_of self.new.files q)) ≡ Some (read_as (file_of self.old.files q)) }
+        ensures written { Writes result bytes.now (contents_of self.old.files name.now)
+            (contents_of self.new.files name.now) }
+        ensures others { (q : List ℕ) → q ≢ name.now →
+            contents_of self.new.files q ≡ contents_of self.old.files q }
         ensures later { self.old.calls.failed ≤ self.new.calls.failed }
         ensures failed { result ≡ FileAnswer.Failed → Rose self.old.calls.failed self.new.calls.failed }
         ensures answers { Answers result (is_due self.old.calls) }
         ensures stored { result ≡ FileAnswer.Done → file_of self.new.files name.now ≡ Some bytes.now }
-        ensures kept { (q : List ℕ) → q ≢ name.now → file_of self.new.files q ≡ file_of self.old.files q }
+        ensures kept { (q : List ℕ) → q ≢ name.now →
+            file_of self.new.files q ≡ file_of self.old.files q }
         ensures counted { self.new.calls ≡ after_call self.old.calls }
     {
         if self.turns.next_fails() {
@@ -97,7 +101,7 @@ pub(crate) fn read_front(
     limit: u32,
     into: &mut Vec<u8>,
 ) -> FileAnswer
-    ensures read { Reads result limit into.new.items (Some (read_as (file_of (entries files.now) name.now))) }
+    ensures read { Reads result limit into.new.items (contents_of (entries files.now) name.now) }
     ensures never_fails { Answers result false }
 {
     into.clear();
@@ -116,7 +120,8 @@ pub(crate) fn read_front(
 pub(crate) fn put(files: &mut Vec<(String, Vec<u8>)>, name: &str, bytes: &[u8]) -> FileAnswer
     ensures never_fails { Answers result false }
     ensures stored { result ≡ FileAnswer.Done → file_of (entries files.new.items) name.now ≡ Some bytes.now }
-    ensures kept { (q : List ℕ) → q ≢ name.now → file_of (entries files.new.items) q ≡ file_of (entries files.old.items) q }
+    ensures kept { (q : List ℕ) → q ≢ name.now →
+        file_of (entries files.new.items) q ≡ file_of (entries files.old.items) q }
 {
     let alloc = *files.allocator();
     let Ok(own) = String::from_str(alloc, name) else {

@@ -65,7 +65,8 @@ pub(crate) fn take_front(bytes: &[u8], at: &mut usize, buf: &mut [u8]) -> Took
     requires some { 0 < length buf.old }
     requires short { length buf.old < 2 ^ 32 }
     ensures within { at.new ≤ length bytes.now }
-    ensures took { Takes result buf.new (Some (drop at.old bytes.now)) (Some (drop at.new bytes.now)) }
+    ensures took { Takes result buf.new (Some (drop at.old bytes.now))
+        (Some (drop at.new bytes.now)) }
     ensures answer { result ≡ taken (length buf.old) (drop at.old bytes.now) }
     ensures left { drop at.new bytes.now ≡ left_after (length buf.old) (drop at.old bytes.now) }
 {

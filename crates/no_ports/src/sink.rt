@@ -10,7 +10,7 @@ pub enum Gave {
     NoMemory,
 }
 
-/// A place that bytes are written to in order. It tells what it holds, where it can, and counts its failures.
+/// Where bytes are written in order. It tells what it holds, where it can, and counts its failures.
 pub trait Sink {
     // All bytes given so far, where they are told.
     ghost held: { Self → Option (List ℕ) };

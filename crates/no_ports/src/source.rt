@@ -11,7 +11,7 @@ pub enum Took {
     Failed,
 }
 
-/// Bytes that are read in order. It tells what is left of them, where it can, and counts its failures.
+/// Bytes that are read in order. It tells what is left, where it can, and counts its failures.
 pub trait Source {
     // The bytes not yet taken, where they are told.
     ghost left: { Self → Option (List ℕ) };

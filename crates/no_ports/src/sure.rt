@@ -1,6 +1,6 @@
 ghost use Rattle.std.specs.Prelude.{◌≡◌, ◌≢◌, ℕ, ◌^◌, ◌<◌, ◌≤◌, List, [], Some, false, length, option_copied};
 ghost use Rattle.no_ports.specs.Meanings.{Rose, Takes, Gives, Reads, Writes};
-ghost use Rattle.no_ports.specs.Memory.{taken, left_after, Stores, Answers, entries, file_of, read_as};
+ghost use Rattle.no_ports.specs.Memory.{taken, left_after, Stores, Answers, entries, file_of, contents_of};
 
 use crate::files::{FileAnswer, Files};
 use crate::mem_files::{find, put, read_front};
@@ -134,13 +134,14 @@ impl SureFiles {
 }
 
 impl Files for SureFiles {
-    ghost contents = { λ s name. Some (read_as (file_of s name)) };
+    ghost contents = { λ s name. contents_of s name };
 
     ghost faults = { λ _. 0 };
 
     fn read(&mut self, name: &str, limit: u32, into: &mut Vec<u8>) -> FileAnswer
-        ensures read { Reads result limit into.new.items (Some (read_as (file_of self.old name.now))) }
-        ensures same { (q : List ℕ) → Some (read_as (file_of self.new q)) ≡ Some (read_as (file_of self.old q)) }
+        ensures read { Reads result limit into.new.items (contents_of self.old name.now) }
+        ensures same { (q : List ℕ) →
+            contents_of self.new q ≡ contents_of self.old q }
         ensures kept { self.new ≡ self.old }
         ensures never_fails { result ≢ FileAnswer.Failed }
     {
@@ -148,8 +149,10 @@ impl Files for SureFiles {
     }
 
     fn write(&mut self, name: &str, bytes: &[u8]) -> FileAnswer
-        ensures written { Writes result bytes.now (Some (read_as (file_of self.old name.now))) (Some (read_as (file_of self.new name.now))) }
-        ensures others { (q : List ℕ) → q ≢ name.now → Some (read_as (file_of self.new q)) ≡ Some (read_as (file_of self.old q)) }
+        ensures written { Writes result bytes.now (contents_of self.old name.now)
+            (contents_of self.new name.now) }
+        ensures others { (q : List ℕ) → q ≢ name.now →
+            contents_of self.new q ≡ contents_of self.old q }
         ensures stored { result ≡ FileAnswer.Done → file_of self.new name.now ≡ Some bytes.now }
         ensures kept { (q : List ℕ) → q ≢ name.now → file_of self.new q ≡ file_of self.old q }
         ensures never_fails { result ≢ FileAnswer.Failed }

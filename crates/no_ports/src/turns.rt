@@ -4,7 +4,7 @@ ghost use Rattle.no_ports.specs.Memory.{no_calls, is_due, after_call};
 
 use std::marker::Model;
 
-/// The calls on a form in memory: which are to fail, counted from 1, and how many were made and failed.
+/// The calls on a form in memory: which are to fail, counted from 1; how many were made, and failed.
 #[derive(Debug, Drop)]
 pub(crate) struct Turns {
     failing: Vec<u32>,
