@@ -24,3 +24,6 @@ pub use types::Ty;
 
 /// A list of bytes: a name, a text or the bytes of a constant.
 pub type Bytes = List<u8>;
+
+#[cfg(test)]
+mod tests;

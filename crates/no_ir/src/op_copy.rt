@@ -15,16 +15,22 @@ impl Op {
             Op::Compare(pred, ty, left, right) => copy_compare(alloc, *pred, ty, left, right),
             Op::Cast(op, from, value, into) => copy_cast(alloc, *op, from, value, into),
             Op::Freeze(ty, value) => copy_freeze(alloc, ty, value),
-            Op::Select(condition, ty, chosen, other) => copy_select(alloc, condition, ty, chosen, other),
+            Op::Select(condition, ty, chosen, other) => copy_select(
+                alloc, condition, ty, chosen, other,
+            ),
             Op::Phi(ty, pairs) => copy_phi(alloc, ty, pairs),
             Op::Alloca(ty, count, align) => copy_alloca(alloc, ty, count, *align),
             Op::Load(volatile, ty, address) => copy_load(alloc, *volatile, ty, address),
-            Op::Store(volatile, ty, value, address) => copy_store(alloc, *volatile, ty, value, address),
+            Op::Store(volatile, ty, value, address) => copy_store(
+                alloc, *volatile, ty, value, address,
+            ),
             Op::Gep(ty, base, indices) => copy_gep(alloc, ty, base, indices),
             Op::Call(ty, callee, arguments) => copy_call(alloc, ty, callee, arguments),
             Op::Br(label) => Ok(Op::Br(*label)),
             Op::CondBr(condition, chosen, other) => copy_cond_br(alloc, condition, *chosen, *other),
-            Op::Switch(width, value, default, cases) => copy_switch(alloc, *width, value, *default, cases),
+            Op::Switch(width, value, default, cases) => copy_switch(
+                alloc, *width, value, *default, cases,
+            ),
             Op::Ret(value) => copy_ret(alloc, value),
             Op::Unreachable => Ok(Op::Unreachable),
         }
@@ -32,7 +38,13 @@ impl Op {
 }
 
 /// An equal `Binary`.
-fn copy_binary(alloc: Global, op: BinOp, width: u8, left: &Operand, right: &Operand) -> Result<Op, NoMemory>
+fn copy_binary(
+    alloc: Global,
+    op: BinOp,
+    width: u8,
+    left: &Operand,
+    right: &Operand,
+) -> Result<Op, NoMemory>
     ensures { IfOk result (λ o. o ≡ Op.Binary op width left.now right.now) }
 {
     let left = left.duplicate(alloc)?;
@@ -41,7 +53,13 @@ fn copy_binary(alloc: Global, op: BinOp, width: u8, left: &Operand, right: &Oper
 }
 
 /// An equal `Compare`.
-fn copy_compare(alloc: Global, pred: Pred, ty: &Ty, left: &Operand, right: &Operand) -> Result<Op, NoMemory>
+fn copy_compare(
+    alloc: Global,
+    pred: Pred,
+    ty: &Ty,
+    left: &Operand,
+    right: &Operand,
+) -> Result<Op, NoMemory>
     ensures { IfOk result (λ o. o ≡ Op.Compare pred ty.now left.now right.now) }
 {
     let ty = ty.duplicate(alloc)?;
@@ -51,7 +69,13 @@ fn copy_compare(alloc: Global, pred: Pred, ty: &Ty, left: &Operand, right: &Oper
 }
 
 /// An equal `Cast`.
-fn copy_cast(alloc: Global, op: CastOp, from: &Ty, value: &Operand, into: &Ty) -> Result<Op, NoMemory>
+fn copy_cast(
+    alloc: Global,
+    op: CastOp,
+    from: &Ty,
+    value: &Operand,
+    into: &Ty,
+) -> Result<Op, NoMemory>
     ensures { IfOk result (λ o. o ≡ Op.Cast op from.now value.now into.now) }
 {
     let from = from.duplicate(alloc)?;
@@ -70,7 +94,13 @@ fn copy_freeze(alloc: Global, ty: &Ty, value: &Operand) -> Result<Op, NoMemory>
 }
 
 /// An equal `Select`.
-fn copy_select(alloc: Global, condition: &Operand, ty: &Ty, chosen: &Operand, other: &Operand) -> Result<Op, NoMemory>
+fn copy_select(
+    alloc: Global,
+    condition: &Operand,
+    ty: &Ty,
+    chosen: &Operand,
+    other: &Operand,
+) -> Result<Op, NoMemory>
     ensures { IfOk result (λ o. o ≡ Op.Select condition.now ty.now chosen.now other.now) }
 {
     let condition = condition.duplicate(alloc)?;
@@ -90,7 +120,12 @@ fn copy_phi(alloc: Global, ty: &Ty, pairs: &List<(Operand, u32)>) -> Result<Op, 
 }
 
 /// An equal `Alloca`.
-fn copy_alloca(alloc: Global, ty: &Ty, count: &Option<(u8, Operand)>, align: Option<u32>) -> Result<Op, NoMemory>
+fn copy_alloca(
+    alloc: Global,
+    ty: &Ty,
+    count: &Option<(u8, Operand)>,
+    align: Option<u32>,
+) -> Result<Op, NoMemory>
     ensures { IfOk result (λ o. o ≡ Op.Alloca ty.now count.now align) }
 {
     let ty = ty.duplicate(alloc)?;
@@ -108,7 +143,13 @@ fn copy_load(alloc: Global, volatile: bool, ty: &Ty, address: &Operand) -> Resul
 }
 
 /// An equal `Store`.
-fn copy_store(alloc: Global, volatile: bool, ty: &Ty, value: &Operand, address: &Operand) -> Result<Op, NoMemory>
+fn copy_store(
+    alloc: Global,
+    volatile: bool,
+    ty: &Ty,
+    value: &Operand,
+    address: &Operand,
+) -> Result<Op, NoMemory>
     ensures { IfOk result (λ o. o ≡ Op.Store volatile ty.now value.now address.now) }
 {
     let ty = ty.duplicate(alloc)?;
@@ -118,7 +159,12 @@ fn copy_store(alloc: Global, volatile: bool, ty: &Ty, value: &Operand, address: 
 }
 
 /// An equal `Gep`.
-fn copy_gep(alloc: Global, ty: &Ty, base: &Operand, indices: &List<(u8, Operand)>) -> Result<Op, NoMemory>
+fn copy_gep(
+    alloc: Global,
+    ty: &Ty,
+    base: &Operand,
+    indices: &List<(u8, Operand)>,
+) -> Result<Op, NoMemory>
     ensures { IfOk result (λ o. o ≡ Op.Gep ty.now base.now indices.now) }
 {
     let ty = ty.duplicate(alloc)?;
@@ -128,7 +174,12 @@ fn copy_gep(alloc: Global, ty: &Ty, base: &Operand, indices: &List<(u8, Operand)
 }
 
 /// An equal `Call`.
-fn copy_call(alloc: Global, ty: &Ty, callee: &Operand, arguments: &List<(Ty, Operand)>) -> Result<Op, NoMemory>
+fn copy_call(
+    alloc: Global,
+    ty: &Ty,
+    callee: &Operand,
+    arguments: &List<(Ty, Operand)>,
+) -> Result<Op, NoMemory>
     ensures { IfOk result (λ o. o ≡ Op.Call ty.now callee.now arguments.now) }
 {
     let ty = ty.duplicate(alloc)?;
@@ -146,7 +197,13 @@ fn copy_cond_br(alloc: Global, condition: &Operand, chosen: u32, other: u32) -> 
 }
 
 /// An equal `Switch`.
-fn copy_switch(alloc: Global, width: u8, value: &Operand, default: u32, cases: &List<(u64, u32)>) -> Result<Op, NoMemory>
+fn copy_switch(
+    alloc: Global,
+    width: u8,
+    value: &Operand,
+    default: u32,
+    cases: &List<(u64, u32)>,
+) -> Result<Op, NoMemory>
     ensures { IfOk result (λ o. o ≡ Op.Switch width value.now default cases.now) }
 {
     let value = value.duplicate(alloc)?;
