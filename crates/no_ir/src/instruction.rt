@@ -1,5 +1,9 @@
-use crate::{Const, Ty};
+ghost use Rattle.std.specs.Prelude.{◌≡◌, IfOk};
+
+use crate::duplicate::Duplicate;
+use crate::{Const, NoMemory, Ty};
 use sqlite_items::Items as List;
+use std::alloc::Global;
 
 /// A binary operator on integers (LLVM Language Reference, "Binary Operations" and "Bitwise Binary Operations").
 #[derive(Clone, Copy, Debug, PartialEq, Eq)]
@@ -52,6 +56,24 @@ pub enum Operand {
     Const(Const),
 }
 
+impl Operand {
+    /// An equal operand.
+    pub fn copy(&self, alloc: Global) -> Result<Operand, NoMemory>
+        ensures { IfOk result (λ o. o ≡ self.now) }
+    {
+        match self {
+            Operand::Reg(register) => Ok(Operand::Reg(*register)),
+            Operand::Const(constant) => Ok(Operand::Const(constant.copy(alloc)?)),
+        }
+    }
+}
+
+impl Duplicate for Operand {
+    fn duplicate(&self, alloc: Global) -> Result<Operand, NoMemory> {
+        self.copy(alloc)
+    }
+}
+
 /// What an instruction does. Labels and registers are numbers of its function's lists.
 #[derive(Debug, Drop)]
 pub enum Op {
@@ -96,4 +118,24 @@ pub struct Instr {
     /// Whether the partition made it, in which case it costs nothing.
     pub inserted: bool,
     pub op: Op,
+}
+
+impl Instr {
+    /// An equal instruction.
+    pub fn copy(&self, alloc: Global) -> Result<Instr, NoMemory>
+        ensures { IfOk result (λ i. i ≡ self.now) }
+    {
+        let op = self.op.copy(alloc)?;
+        Ok(Instr {
+            result: self.result,
+            inserted: self.inserted,
+            op,
+        })
+    }
+}
+
+impl Duplicate for Instr {
+    fn duplicate(&self, alloc: Global) -> Result<Instr, NoMemory> {
+        self.copy(alloc)
+    }
 }

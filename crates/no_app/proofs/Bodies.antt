@@ -1,0 +1,39 @@
+-- A body is read line by line.
+use Rattle.std.proofs.Common.{◌≡◌, ◌≢◌, ℕ, ◌+◌, ◌≤◌, ◌<◌, Bool, true, false, List, [], ◌∷◌, ◌++◌, length, refl, sym, ap, subst, ◌∙◌, append_assoc, Option, Some, None, length-append, arith}
+use Rattle.std.specs.Prelude.{codes}
+use Rattle.no_ir.specs.declared.instruction.Op.{Op}
+use Rattle.no_ir.specs.declared.instruction.Instr.{Instr}
+use Rattle.no_model.specs.Reading.{Body, body_of, before_body, strip, plain, assignment_of}
+use Rattle.no_app.specs.Refused.{Added}
+
+pub before_twice : (front back : List Instr) (body : Option Body) → before_body front (before_body back body) ≡ before_body (front ++ back) body
+before_twice front back None = refl
+before_twice front back (Some b) = ap (λ (is : List Instr). Some (b.0, is)) (sym (append_assoc front back b.1))
+
+-- one more line that assigns
+pub body_more : (declared : Bool) (names names' : List (List ℕ)) (instrs instrs' : List Instr) (line : List ℕ) (lines : List (List ℕ)) (a : List ℕ × Op)
+    (whole : Option Body)
+    → whole ≡ before_body instrs (body_of declared names (line ∷ lines))
+    → strip (codes "  ret i32 ") line ≡ None → assignment_of declared names line ≡ Some a → Added names names' instrs instrs' a
+    → whole ≡ before_body instrs' (body_of declared names' lines)
+body_more declared names names' instrs instrs' line lines a whole e plain_line is added =
+    e ∙ ap (before_body instrs) unfolded
+      ∙ before_twice instrs (plain (Some (length names)) a.1 ∷ []) (body_of declared (names ++ a.0 ∷ []) lines)
+      ∙ rw (added.name, added.instr) refl
+  where
+    unfolded : body_of declared names (line ∷ lines) ≡ before_body (plain (Some (length names)) a.1 ∷ []) (body_of declared (names ++ a.0 ∷ []) lines)
+    unfolded = rw plain_line (rw is refl)
+
+pub room_more : (names names' : List (List ℕ)) (instrs instrs' : List Instr) (a : List ℕ × Op) (rest more text : List ℕ)
+    → length names + length rest ≤ length text → length more < length rest → Added names names' instrs instrs' a
+    → length names' + length more ≤ length text
+room_more names names' instrs instrs' a rest more text room shorter added =
+    rw (added.name, length-append) (omega arith)
+
+-- a line that assigns, from what its pieces are
+pub added_line : (declared : Bool) (line : List ℕ) (names names' seen : List (List ℕ)) (instrs instrs' : List Instr) (name text : List ℕ) (op : Op) (n : ℕ)
+    → seen ≡ names → assignment_of declared seen line ≡ Some (name, op) → n ≡ length names → text ≡ name
+    → names' ≡ names ++ text ∷ [] → instrs' ≡ instrs ++ plain (Some n) op ∷ []
+    → (a : List ℕ × Op) × (assignment_of declared names line ≡ Some a) × Added names names' instrs instrs' a
+added_line declared line names names' seen instrs instrs' name text op n same is counted copied named made =
+    ((name, op), subst (λ (s : List (List ℕ)). assignment_of declared s line ≡ Some (name, op)) same is, record { name = rw copied at named; instr = rw counted at made })

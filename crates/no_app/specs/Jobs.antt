@@ -1,0 +1,38 @@
+-- What a job says of its run.
+use Rattle.std.specs.Prelude.{◌≡◌, ℕ, ◌+◌, ◌-◌, ◌≤◌, List, Option, Some, None, unwrap_or, []}
+use Rattle.no_ports.specs.Meanings.{Adds, AddsPrefix}
+use Rattle.no_model.specs.Run.{Ran}
+use Rattle.no_app.specs.Counted.{Counted}
+use Rattle.no_app.specs.declared.report.Report.{Report}
+use Rattle.no_app.specs.declared.job.JobEnd.{JobEnd}
+use Rattle.no_app.specs.declared.job.JobEnd.TheVariants as job
+use Rattle.no_app.specs.declared.machine.Machine.{Machine}
+use Rattle.no_app.specs.declared.job.Worked.{Worked}
+use Rattle.no_app.specs.declared.job.Worked.TheVariants as worked
+
+-- the report of a run on the device alone
+abbrev pub report_alone : ℕ → Report
+report_alone count = record {
+    offloads = 0; finished = 0; lost = 0; abandoned = 0; declined = 0; pages = 0; dirty = 0; remote = 0; local = count; breach = None }
+
+-- the job's end is the run's, and all of its output was written; otherwise a prefix of it
+abbrev pub IsRunOf : JobEnd → Ran → Option (List ℕ) → Option (List ℕ) → Type 0
+IsRunOf (job.Ended e report) ran old new = (e ≡ ran.end) × (report ≡ report_alone ran.count) × Adds old new ran.output
+IsRunOf job.WriteFault ran old new = AddsPrefix old new ran.output
+IsRunOf job.NoMemory ran old new = AddsPrefix old new ran.output
+
+-- the counter's source number rises by the run's count, or by no more where the job stopped before; its part number stays
+abbrev pub Counts : JobEnd → ℕ → Counted → Counted → Type 0
+Counts (job.Ended e report) count old new = new ≡ record { source = old.source + count; part = old.part }
+Counts job.WriteFault count old new = (new.part ≡ old.part) × (old.source ≤ new.source) × (new.source ≤ old.source + count)
+Counts job.NoMemory count old new = (new.part ≡ old.part) × (old.source ≤ new.source) × (new.source ≤ old.source + count)
+
+-- the input of a run: what the source has left, where it tells
+abbrev pub input_of : Option (List ℕ) → List ℕ
+input_of left = unwrap_or left []
+
+-- what a slice of work came to
+abbrev pub Works : Worked → Machine → Machine → Type 0
+Works worked.Working old new = old.count + 1 ≤ new.count
+Works (worked.Ended e) old new = new.end ≡ Some e
+Works worked.NoMemory old new = Unit {0}

@@ -1,0 +1,181 @@
+-- Outcomes: the status and the last line of each, and when each comes.
+use Rattle.std.specs.Prelude.{◌≡◌, ℕ, ◌+◌, ◌≤◌, List, [], ◌∷◌, ◌++◌, Option, Some, None, codes, decimal, IfSome, ◌⊎◌}
+use Rattle.no_ports.specs.Meanings.{Rose, Adds, AddsPrefix}
+use Rattle.no_ir.specs.declared.ending.End.{End}
+use Rattle.no_ir.specs.declared.ending.End.TheVariants as end
+use Rattle.no_ir.specs.Ending.{trap_number, trap_name}
+use Rattle.no_ir.specs.declared.function.Module.{Module}
+use Rattle.no_model.specs.Reading.{module_of}
+use Rattle.no_model.specs.Run.{Ran, run}
+use Rattle.no_app.specs.Counted.{Counted}
+use Rattle.no_app.specs.Words.{Asked}
+use Rattle.no_app.specs.Jobs.{input_of}
+use Rattle.no_app.specs.declared.job.JobEnd.{JobEnd}
+use Rattle.no_app.specs.declared.job.JobEnd.TheVariants as job
+use Rattle.no_app.specs.declared.outcome.Outcome.{Outcome}
+use Rattle.no_app.specs.declared.outcome.Outcome.TheVariants as outcome
+use Rattle.no_app.specs.declared.outcome.ModuleFault.{ModuleFault}
+use Rattle.no_app.specs.declared.outcome.ModuleFault.TheVariants as modules
+use Rattle.no_app.specs.declared.outcome.ReadFault.{ReadFault}
+use Rattle.no_app.specs.declared.outcome.ReadFault.TheVariants as reads
+
+-- ---- statuses and lines
+
+abbrev pub status_of : Outcome → ℕ
+status_of (outcome.Exited c) = c
+status_of (outcome.Trapped t) = 100 + trap_number t
+status_of outcome.Unfinished = 110
+status_of outcome.NoMemory = 119
+status_of outcome.Usage = 120
+status_of (outcome.FileFault name) = 121
+status_of (outcome.BadModule fault) = 122
+status_of outcome.WriteFault = 118
+
+abbrev pub read_words : ReadFault → List ℕ
+read_words (reads.LeftOut at word) = codes "read 2 at " ++ decimal at
+
+abbrev pub module_words : ModuleFault → List ℕ
+module_words (modules.Read fault) = read_words fault
+
+-- what stands between `nativeoff: ` and the line feed
+abbrev pub words_of : Outcome → List ℕ
+words_of (outcome.Exited c) = codes "exited " ++ decimal c
+words_of (outcome.Trapped t) = codes "trapped " ++ decimal (trap_number t) ++ codes " " ++ trap_name t
+words_of outcome.Unfinished = codes "unfinished"
+words_of outcome.NoMemory = codes "no memory"
+words_of outcome.Usage = codes "the words are not a command's words"
+words_of (outcome.FileFault name) = codes "file fault " ++ name
+words_of (outcome.BadModule fault) = codes "bad module " ++ module_words fault
+words_of outcome.WriteFault = codes "write fault"
+
+abbrev pub line_of : Outcome → List ℕ
+line_of o = codes "nativeoff: " ++ words_of o ++ codes "\n"
+
+-- the outcome of a run's end
+abbrev pub outcome_of : End → Outcome
+outcome_of (end.Exited c) = outcome.Exited c
+outcome_of (end.Trapped t) = outcome.Trapped t
+outcome_of end.Unfinished = outcome.Unfinished
+
+-- the outcome of a job
+abbrev pub outcome_of_job : JobEnd → Outcome
+outcome_of_job (job.Ended e report) = outcome_of e
+outcome_of_job job.WriteFault = outcome.WriteFault
+outcome_of_job job.NoMemory = outcome.NoMemory
+
+-- ---- when each outcome comes
+
+-- before and after a call: what the output holds, what is counted, and the output's count of faults
+pub record Flow : Type 0 where
+  pub held : Option (List ℕ)
+  pub held' : Option (List ℕ)
+  pub counted : Counted
+  pub counted' : Counted
+  pub outs : ℕ
+  pub outs' : ℕ
+
+-- the outside world around a call: the job that the words ask for, what files hold, what the input has left,
+-- the output and the counter, and the files' count of faults before and after
+pub record Around : Type 0 where
+  pub job : Option Asked
+  pub contents : List ℕ → Option (List ℕ)
+  pub input : Option (List ℕ)
+  pub flow : Flow
+  pub files : ℕ
+  pub files' : ℕ
+
+-- a fact of the job, which there has to be
+abbrev pub OnJob : Option Asked → (Asked → Type 0) → Type 0
+OnJob None P = ⊥
+OnJob (Some asked) P = P asked
+
+-- a fact of the module that a text means, which it has to mean
+abbrev pub OnModule : Option Module → (Module → Type 0) → Type 0
+OnModule None P = ⊥
+OnModule (Some m) P = P m
+
+-- the run ended so, its output was written, and its instructions were counted
+pub record RanWhole (o : Outcome) (f : Flow) (ran : Ran) : Type 0 where
+  pub ended : o ≡ outcome_of ran.end
+  pub wrote : Adds f.held f.held' ran.output
+  pub counts : f.counted' ≡ record { source = f.counted.source + ran.count; part = f.counted.part }
+
+-- the run of the job's file: where files tell what they hold, it is a program, and it ran so
+abbrev pub RunsTo : Outcome → Around → Type 0
+RunsTo o a = OnJob a.job (λ asked. IfSome (a.contents asked.file) (λ text. OnModule (module_of text) (λ m. RanWhole o a.flow (run m (input_of a.input) asked.steps))))
+
+-- the one fault of a text that has another form
+abbrev pub left_out : ModuleFault
+left_out = modules.Read (reads.LeftOut 0 [])
+
+-- what each outcome says; the cases exclude each other, so each comes exactly where it says, want of memory aside
+abbrev pub Says : Outcome → Around → Type 0
+Says (outcome.Exited c) a = RunsTo (outcome.Exited c) a
+Says (outcome.Trapped t) a = RunsTo (outcome.Trapped t) a
+Says outcome.Unfinished a = RunsTo outcome.Unfinished a
+Says outcome.NoMemory a = Unit {0}
+Says outcome.Usage a = a.job ≡ None
+Says (outcome.FileFault name) a = OnJob a.job (λ asked. (name ≡ asked.file) × Rose a.files a.files')
+Says (outcome.BadModule fault) a = OnJob a.job (λ asked. (fault ≡ left_out) × IfSome (a.contents asked.file) (λ text. module_of text ≡ None))
+Says outcome.WriteFault a = OnJob a.job (λ asked. Rose a.flow.outs a.flow.outs')
+
+-- nothing was written and nothing counted
+pub record Idle (f : Flow) : Type 0 where
+  pub wrote : f.held' ≡ f.held
+  pub counts : f.counted' ≡ f.counted
+
+-- a prefix of the run's output was written, and no more counted than the run counts
+pub record RanPart (f : Flow) (ran : Ran) : Type 0 where
+  pub wrote : AddsPrefix f.held f.held' ran.output
+  pub part : f.counted'.part ≡ f.counted.part
+  pub rises : f.counted.source ≤ f.counted'.source
+  pub within : f.counted'.source ≤ f.counted.source + ran.count
+
+-- of the module that a text means, if it means one
+abbrev pub RunsPart : Flow → List ℕ → ℕ → Option Module → Type 0
+RunsPart f input steps None = Idle f
+RunsPart f input steps (Some m) = RanPart f (run m input steps)
+
+-- whatever the outcome: without a job or a program nothing is written, and otherwise a prefix of the run's output
+abbrev pub WritesPart : Around → Option Asked → Type 0
+WritesPart a None = Idle a.flow
+WritesPart a (Some asked) = IfSome (a.contents asked.file) (λ text. RunsPart a.flow (input_of a.input) asked.steps (module_of text))
+
+-- ---- the same for a text that was read
+
+-- the outcome of a run
+abbrev pub RanAs : Outcome → Flow → Ran → Type 0
+RanAs (outcome.Exited c) f ran = RanWhole (outcome.Exited c) f ran
+RanAs (outcome.Trapped t) f ran = RanWhole (outcome.Trapped t) f ran
+RanAs outcome.Unfinished f ran = RanWhole outcome.Unfinished f ran
+RanAs outcome.NoMemory f ran = Unit {0}
+RanAs outcome.Usage f ran = ⊥
+RanAs (outcome.FileFault name) f ran = ⊥
+RanAs (outcome.BadModule fault) f ran = ⊥
+RanAs outcome.WriteFault f ran = Rose f.outs f.outs'
+
+-- the outcome of a text that is no program
+abbrev pub IsRefused : Outcome → Type 0
+IsRefused (outcome.BadModule fault) = fault ≡ left_out
+IsRefused outcome.NoMemory = Unit {0}
+IsRefused _ = ⊥
+
+abbrev pub RunsText : Outcome → Flow → List ℕ → ℕ → Option Module → Type 0
+RunsText o f input steps None = IsRefused o
+RunsText o f input steps (Some m) = RanAs o f (run m input steps)
+
+-- the outcome with the stream of the last line beside it, of which these are the counts of faults
+abbrev pub Concludes : Outcome → Around → ℕ → ℕ → Type 0
+Concludes outcome.WriteFault a errs errs' = Says outcome.WriteFault a ⊎ Rose errs errs'
+Concludes o a errs errs' = Says o a
+
+-- the line that the stream got: the outcome's own, or after a fault or for want of memory a prefix of one
+abbrev pub Tells : Outcome → Option (List ℕ) → Option (List ℕ) → ℕ → ℕ → Type 0
+Tells outcome.WriteFault old new errs errs' =
+    AddsPrefix old new (line_of outcome.WriteFault) ⊎ ((tried : Outcome) × Rose errs errs' × AddsPrefix old new (line_of tried))
+Tells outcome.NoMemory old new errs errs' = (tried : Outcome) × AddsPrefix old new (line_of tried)
+Tells o old new errs errs' = Adds old new (line_of o)
+
+-- an outcome after its line was tried: the same, a fault of the stream, or want of memory
+abbrev pub Becomes : Outcome → Outcome → ℕ → ℕ → Type 0
+Becomes o o' errs errs' = (o' ≡ o) ⊎ ((o' ≡ outcome.WriteFault) × Rose errs errs') ⊎ (o' ≡ outcome.NoMemory)

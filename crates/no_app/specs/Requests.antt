@@ -1,0 +1,12 @@
+-- What the reader of words keeps, as the definitions see it.
+use Rattle.std.specs.Prelude.{ℕ, List, Option}
+use Rattle.std.specs.Option.{option_copied}
+use Rattle.no_app.specs.declared.words.Request.{Request}
+use Rattle.no_app.specs.declared.words.Heard as kept
+use Rattle.no_app.specs.Words.{Asked, Heard}
+
+abbrev pub request_of : Request → Asked
+request_of r = record { file = r.file.now; steps = r.steps }
+
+abbrev pub heard_of : kept.Heard → Heard
+heard_of h = record { waiting = h.waiting; file = option_copied h.file; steps = h.steps }

@@ -1,0 +1,73 @@
+-- The words of the command line: which lists of words ask for a job.
+use Rattle.std.specs.Prelude.{◌≡◌, ℕ, Bool, true, false, nat_le, if◌then◌else◌, List, [], ◌∷◌, length, take, drop, Option, Some, None, is_none, unwrap_or, codes, bytes_eq}
+use Rattle.no_model.specs.Reading.{◌>>=◌, number_of}
+
+-- a file, and a budget of instructions
+pub record Asked : Type 0 where
+  pub file : List ℕ
+  pub steps : ℕ
+
+abbrev pub begins : List ℕ → List ℕ → Bool
+begins prefix word = bytes_eq (take (length prefix) word) prefix
+
+-- a number of 1 to 20 digits, at most 2 ^ 32
+abbrev pub budget_of : List ℕ → Option ℕ
+budget_of word = if nat_le (length word) 20 then number_of 4294967296 word else None
+
+abbrev pub default_budget : ℕ
+default_budget = 1000000000
+
+-- the file has to be there
+abbrev pub finished : Bool → Option (List ℕ) → Option ℕ → Option Asked
+finished false (Some file) steps = Some (record { file = file; steps = unwrap_or steps default_budget })
+finished _ _ steps = None
+
+-- the file may come once
+abbrev pub with_file : List ℕ → Option (List ℕ) → Option (List ℕ)
+with_file word None = Some word
+with_file word (Some file) = None
+
+-- the budget may come once
+abbrev pub with_budget : List ℕ → Option ℕ → Option ℕ
+with_budget word None = budget_of word
+with_budget word (Some n) = None
+
+-- what a word changes of the state: whether the option's value comes next, the file and the budget so far
+pub record Heard : Type 0 where
+  pub waiting : Bool
+  pub file : Option (List ℕ)
+  pub steps : Option ℕ
+
+-- a value in a word of its own
+abbrev pub hear_value : List ℕ → Option (List ℕ) → Option ℕ → Option Heard
+hear_value word file steps =
+    if begins (codes "-") word then None
+    else with_budget word steps >>= (λ n. Some (record { waiting = false; file = file; steps = Some n }))
+
+abbrev pub hear_option : List ℕ → Option (List ℕ) → Option ℕ → Option Heard
+hear_option word file steps =
+    if bytes_eq word (codes "--steps") then Some (record { waiting = true; file = file; steps = steps })
+    else (if begins (codes "--steps=") word
+      then with_budget (drop 8 word) steps >>= (λ n. Some (record { waiting = false; file = file; steps = Some n }))
+      else None)
+
+-- a word that begins with `--` is an option, and another that begins with `-` is refused
+abbrev pub hear_word : List ℕ → Option (List ℕ) → Option ℕ → Option Heard
+hear_word word file steps =
+    if begins (codes "--") word then hear_option word file steps
+    else (if begins (codes "-") word then None
+      else with_file word file >>= (λ name. Some (record { waiting = false; file = Some name; steps = steps })))
+
+abbrev pub hear : Bool → List ℕ → Option (List ℕ) → Option ℕ → Option Heard
+hear true word file steps = hear_value word file steps
+hear false word file steps = hear_word word file steps
+
+-- the words after the command, in any order
+abbrev pub scanned : List (List ℕ) → Bool → Option (List ℕ) → Option ℕ → Option Asked
+scanned [] waiting file steps = finished waiting file steps
+scanned (word ∷ more) waiting file steps = hear waiting word file steps >>= (λ h. scanned more h.waiting h.file h.steps)
+
+-- the words of the command `local`
+abbrev pub asked_of : List (List ℕ) → Option Asked
+asked_of [] = None
+asked_of (word ∷ more) = if bytes_eq word (codes "local") then scanned more false None None else None

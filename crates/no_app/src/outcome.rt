@@ -1,0 +1,51 @@
+ghost use Rattle.std.specs.Prelude.{◌≡◌, IfOk};
+ghost use Rattle.no_app.specs.Outcomes.{status_of};
+
+use no_ir::{Bytes, Trap};
+
+/// What is wrong with a text.
+#[derive(Debug, Drop)]
+pub enum ReadFault {
+    /// A form that is left out: where it stands, and its first word. Nothing is said of a place or a word yet.
+    LeftOut { at: u32, word: Bytes },
+}
+
+/// What is wrong with a module's file.
+#[derive(Debug, Drop)]
+pub enum ModuleFault {
+    Read(ReadFault),
+}
+
+/// How the program ends, in the order of the words that its last line has.
+#[derive(Debug, Drop)]
+pub enum Outcome {
+    /// The run ended with this number.
+    Exited(u8),
+    Trapped(Trap),
+    /// The run used up its budget.
+    Unfinished,
+    NoMemory,
+    /// The words are not a command's words.
+    Usage,
+    /// The file of this name could not be read.
+    FileFault(Bytes),
+    BadModule(ModuleFault),
+    /// The output, or the stream of the last line, did not take what it was given.
+    WriteFault,
+}
+
+/// The exit status that the program ends with.
+pub fn status(outcome: &Outcome) -> u8
+    ensures { result ≡ status_of outcome.now }
+{
+    match outcome {
+        Outcome::Exited(number) => *number,
+        Outcome::Trapped(trap) => 100 + trap.number(),
+        Outcome::Unfinished => 110,
+        Outcome::WriteFault => 118,
+        Outcome::NoMemory => 119,
+        Outcome::Usage => 120,
+        Outcome::FileFault(_) => 121,
+        Outcome::BadModule(_) => 122,
+    }
+}

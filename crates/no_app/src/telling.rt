@@ -1,0 +1,124 @@
+ghost use Rattle.std.specs.Prelude.{◌≡◌, ℕ, ◌≤◌, ◌++◌, ◌⊎◌, OnOk, IfOk, decimal};
+ghost use Rattle.no_ports.specs.Meanings.{Rose};
+ghost use Rattle.no_app.specs.Outcomes.{line_of, words_of, module_words, read_words, Tells, Becomes};
+
+use std::alloc::Global;
+
+use no_ir::{NoMemory, Trap};
+use no_ports::{GaveAll, Sink, give_all};
+
+use crate::outcome::{ModuleFault, Outcome, ReadFault};
+
+/// Adds a number in decimal digits.
+fn put_number(out: &mut Vec<u8>, alloc: Global, n: u64) -> Result<(), NoMemory>
+    ensures { OnOk result (out.new.items ≡ out.old.items ++ decimal n) }
+{
+    let digits = format!(in alloc; "{n}")?;
+    out.extend_from_slice(digits.as_bytes())?;
+    Ok(())
+}
+
+/// Adds the words of a trap.
+fn put_trap(out: &mut Vec<u8>, alloc: Global, trap: Trap) -> Result<(), NoMemory>
+    ensures { OnOk result (out.new.items ≡ out.old.items ++ words_of (Outcome.Trapped trap)) }
+{
+    out.extend_from_slice(b"trapped ")?;
+    put_number(out, alloc, u64::from(trap.number()))?;
+    out.extend_from_slice(b" ")?;
+    out.extend_from_slice(trap.name().as_bytes())?;
+    Ok(())
+}
+
+/// Adds the words of a module's fault.
+fn put_fault(out: &mut Vec<u8>, alloc: Global, fault: &ModuleFault) -> Result<(), NoMemory>
+    ensures { OnOk result (out.new.items ≡ out.old.items ++ module_words fault.now) }
+{
+    match fault {
+        ModuleFault::Read(ReadFault::LeftOut { at, .. }) => {
+            out.extend_from_slice(b"read 2 at ")?;
+            put_number(out, alloc, u64::from(*at))
+        }
+    }
+}
+
+/// Adds the words of an outcome.
+fn put_words(out: &mut Vec<u8>, alloc: Global, outcome: &Outcome) -> Result<(), NoMemory>
+    ensures { OnOk result (out.new.items ≡ out.old.items ++ words_of outcome.now) }
+{
+    match outcome {
+        Outcome::Exited(number) => {
+            out.extend_from_slice(b"exited ")?;
+            put_number(out, alloc, u64::from(*number))
+        }
+        Outcome::Trapped(trap) => put_trap(out, alloc, *trap),
+        Outcome::Unfinished => put_text(out, b"unfinished"),
+        Outcome::NoMemory => put_text(out, b"no memory"),
+        Outcome::Usage => put_text(out, b"the words are not a command's words"),
+        Outcome::FileFault(name) => {
+            out.extend_from_slice(b"file fault ")?;
+            put_text(out, name.as_slice())
+        }
+        Outcome::BadModule(fault) => {
+            out.extend_from_slice(b"bad module ")?;
+            put_fault(out, alloc, fault)
+        }
+        Outcome::WriteFault => put_text(out, b"write fault"),
+    }
+}
+
+/// Adds a text.
+fn put_text(out: &mut Vec<u8>, text: &[u8]) -> Result<(), NoMemory>
+    ensures { OnOk result (out.new.items ≡ out.old.items ++ text.now) }
+{
+    out.extend_from_slice(text)?;
+    Ok(())
+}
+
+/// The last line of an outcome.
+fn line(alloc: Global, outcome: &Outcome) -> Result<Vec<u8>, NoMemory>
+    ensures { IfOk result (λ l. l.items ≡ line_of outcome.now) }
+{
+    let mut out = Vec::new(alloc);
+    put_text(&mut out, b"nativeoff: ")?;
+    put_words(&mut out, alloc, outcome)?;
+    put_text(&mut out, b"\n")?;
+    Ok(out)
+}
+
+/// What becomes of an outcome whose line the stream refused: a write fault, but for want of memory.
+fn after_failure(outcome: Outcome) -> Outcome
+    ensures { (result ≡ Outcome.WriteFault) ⊎ ((outcome ≡ Outcome.NoMemory) × (result ≡ Outcome.NoMemory)) }
+{
+    match outcome {
+        Outcome::NoMemory => Outcome::NoMemory,
+        _ => Outcome::WriteFault,
+    }
+}
+
+/// What becomes of an outcome whose line found no memory: want of memory, but for a write fault.
+fn after_want(outcome: Outcome) -> Outcome
+    ensures { (result ≡ Outcome.NoMemory) ⊎ ((outcome ≡ Outcome.WriteFault) × (result ≡ Outcome.WriteFault)) }
+{
+    match outcome {
+        Outcome::WriteFault => Outcome::WriteFault,
+        _ => Outcome::NoMemory,
+    }
+}
+
+/// Gives the last line of an outcome to a stream, and answers the outcome that comes of it.
+///
+/// A failure of the stream makes it a write fault, and want of memory makes it want of memory; but a write fault
+/// and want of memory stay what they are.
+pub(crate) fn tell<E: Sink>(alloc: Global, outcome: Outcome, err: &mut E) -> Outcome
+    ensures becomes { Becomes outcome result (E.faults err.old) (E.faults err.new) }
+    ensures told { Tells result (E.held err.old) (E.held err.new) (E.faults err.old) (E.faults err.new) }
+{
+    let Ok(text) = line(alloc, &outcome) else {
+        return after_want(outcome);
+    };
+    match give_all(err, &text) {
+        GaveAll::Done => outcome,
+        GaveAll::Failed => after_failure(outcome),
+        GaveAll::NoMemory => after_want(outcome),
+    }
+}

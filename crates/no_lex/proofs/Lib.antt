@@ -1,0 +1,4 @@
+mod Longest
+mod Looking
+mod Once
+mod Spans
