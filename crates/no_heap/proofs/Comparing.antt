@@ -1,17 +1,17 @@
 -- One step of comparing two lists of blocks, and all of them.
-use Rattle.std.proofs.Common.{◌≡◌, ℕ, zero, suc, ◌+◌, ◌-◌, ◌<◌, ◌≤◌, ◌==◌, ◌++◌, Bool, true, false, if◌then◌else◌, nat_le, Option, Some, None, List, [], ◌∷◌, length, drop, get_or, ◌⊎◌, inl, inr, refl, sym, ap, subst, ◌∙◌, arith, length-drop}
+use Rattle.std.proofs.Common.{◌≡◌, ℕ, ◌+◌, ◌<◌, ◌≤◌, ◌==◌, ◌++◌, Bool, true, false, if◌then◌else◌, nat_le, Option, Some, None, List, [], ◌∷◌, length, drop, inl, inr, refl, sym, ap, subst, ◌∙◌, arith, length-drop}
 use Rattle.std.specs.Option.{option_to_list}
-use Rattle.std.proofs.lemmas.Bool.{cond-true, cond-false, eq-eqb, ne_eqb, cases_eq, and_from, and_parts, le-leb}
-use Rattle.std.proofs.lemmas.List.{drop_more, drop-drop, drop_all, append-nil}
+use Rattle.std.proofs.lemmas.Bool.{cond-false, ne_eqb, cases_eq, and_from, and_parts, le-leb}
+use Rattle.std.proofs.lemmas.List.{drop-drop, drop_all, append-nil}
 use Rattle.no_heap.specs.declared.block.Block.{Block}
 use Rattle.no_heap.specs.declared.block.Entry.{Entry}
 use Rattle.no_heap.specs.declared.block.TheConstants.{HEAP_START}
-use Rattle.no_heap.specs.Blocks.{IsFormed, IsRising, AreLive, block_end, size_at}
+use Rattle.no_heap.specs.Blocks.{IsRising, AreLive, block_end, size_at}
 use Rattle.no_heap.specs.Changes.{rises_from, entry_at, change_at, AreChanges}
-use Rattle.no_heap.specs.Steps.{first_of, or_else, IsAbove, IsCompared}
+use Rattle.no_heap.specs.Steps.{first_of, or_else, IsCompared}
 use Rattle.no_heap.proofs.Ordered.{IsOrdered, ordered_rising, size_here, size_past, none_below}
 use Rattle.no_heap.proofs.Placing.{rising_lower}
-use Rattle.no_heap.proofs.Restored.{change_none, change_same, entry_here, entry_past}
+use Rattle.no_heap.proofs.Restored.{change_none, entry_here, entry_past}
 
 -- what is told where the sizes differ
 change_some : (now since : List Block) (p n m : ℕ) → size_at now p ≡ n → size_at since p ≡ m → (n ≡ m → ⊥) → change_at now since p ≡ Some n

@@ -1,5 +1,5 @@
 -- One step of telling entries, and all of them.
-use Rattle.std.proofs.Common.{◌≡◌, ℕ, zero, suc, ◌+◌, ◌-◌, ◌<◌, ◌≤◌, Bool, true, false, Option, Some, None, List, [], ◌∷◌, ◌++◌, length, drop, get_or, nat_le, refl, sym, ap, subst, ◌∙◌, arith, length-append, length-drop}
+use Rattle.std.proofs.Common.{◌≡◌, ℕ, zero, suc, ◌+◌, ◌<◌, ◌≤◌, true, Option, Some, None, List, [], ◌∷◌, ◌++◌, length, drop, get_or, nat_le, refl, sym, ap, subst, ◌∙◌, arith, length-append, length-drop}
 use Rattle.std.proofs.lemmas.List.{drop_more, drop-drop, drop_all}
 use Rattle.std.proofs.lemmas.Bool.{and_from, le-leb}
 use Rattle.no_heap.specs.declared.block.Block.{Block}
@@ -10,7 +10,7 @@ use Rattle.no_heap.specs.Changes.{rises_from, told}
 use Rattle.no_heap.specs.Steps.{with_front, first_of, IsAdvance, IsStuck}
 use Rattle.no_heap.proofs.Ordered.{ordered_rising}
 use Rattle.no_heap.proofs.Placing.{rising_lower}
-use Rattle.no_heap.proofs.Telling.{with_none, with_both, rises_first, rises_rest, rises_lower, told_below, told_changed, told_gone, told_new, told_absent}
+use Rattle.no_heap.proofs.Telling.{with_none, with_both, rises_rest, rises_lower, told_below, told_changed, told_gone, told_new, told_absent}
 
 -- what is put makes a list that is too long
 too_long : (old : List Block) (b : Block) (o : Option (List Block)) (bs : List Block) → MOST_BLOCKS ≤ length old → with_front old (with_front (b ∷ []) o) ≡ Some bs → AreLive bs → ⊥

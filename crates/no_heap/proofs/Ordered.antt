@@ -1,6 +1,6 @@
 -- Blocks at rising places, as a map from places to sizes.
 use Rattle.std.proofs.Common.{◌≡◌, ℕ, zero, suc, ◌+◌, ◌<◌, ◌≤◌, ◌==◌, if◌then◌else◌, List, [], ◌∷◌, get_or, refl, sym, ap, subst, ◌∙◌, ◌⊎◌, arith, inl, inr}
-use Rattle.std.proofs.lemmas.Bool.{cond-true, cond-false, eq-eqb, ne_eqb, lt-ltb, le-ltb, cases_lt, cases_eq, cases_order}
+use Rattle.std.proofs.lemmas.Bool.{cond-true, cond-false, eq-eqb, ne_eqb, lt-ltb, le-ltb, cases_lt, cases_order}
 use Rattle.no_heap.specs.declared.block.Block.{Block}
 use Rattle.no_heap.specs.Blocks.{IsRising, block_end, size_at, behind, without_at, set_block}
 

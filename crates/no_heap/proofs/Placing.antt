@@ -1,16 +1,16 @@
 -- A block put in at a gap, and a block taken out.
-use Rattle.std.proofs.Common.{◌≡◌, ℕ, zero, suc, ◌+◌, ◌%◌, ◌<◌, ◌≤◌, Bool, true, false, nat_le, if◌then◌else◌, Option, Some, None, List, [], ◌∷◌, ◌++◌, length, take, drop, get_or, ◌⊎◌, inl, inr, refl, sym, ap, subst, ◌∙◌, arith}
+use Rattle.std.proofs.Common.{◌≡◌, ℕ, zero, suc, ◌+◌, ◌%◌, ◌<◌, ◌≤◌, Bool, true, false, nat_le, nat_lt, if◌then◌else◌, Some, None, List, [], ◌∷◌, length, drop, get_or, ◌⊎◌, inl, inr, refl, sym, ap, subst, ◌∙◌, arith}
 use Rattle.std.specs.Prelude.{All}
 use Rattle.std.specs.List.{insert, remove}
-use Rattle.std.proofs.lemmas.Bool.{leb-true, leb-false, le-leb, lt-leb, cond-true, cond-false, cases_order}
+use Rattle.std.proofs.lemmas.Bool.{leb-true, ltb-true, le-leb, lt-leb, cond-true, cond-false, cases_order}
 use Rattle.std.proofs.lemmas.List.{drop_more, drop_all}
 use Rattle.std.proofs.lemmas.List.Edits.{length-insert, length-remove}
 use Rattle.no_heap.specs.declared.block.Block.{Block}
 use Rattle.no_heap.specs.declared.block.TheConstants.{HEAP_START, HEAP_END, MOST_BLOCKS}
 use Rattle.no_heap.specs.Blocks.{IsFormed, IsRising, AreLive, block_end, size_at, set_block, IsBlockAt}
-use Rattle.no_heap.specs.Fit.{first_gap, IsGapAt}
+use Rattle.no_heap.specs.Fit.{first_gap, IsGapAt, fit, rounded}
 use Rattle.no_heap.proofs.Gaps.{first_fits}
-use Rattle.no_heap.proofs.Ordered.{IsOrdered, nth, ordered_rising, ordered_lower, size_here, size_past, behind_some, behind_none, set_below, set_here, set_above}
+use Rattle.no_heap.proofs.Ordered.{IsOrdered, nth, ordered_rising, size_here, size_past, behind_some, behind_none, set_below, set_here, set_above}
 
 -- ---- the first gap
 
@@ -156,3 +156,35 @@ live_put bs size index p live few some multiple at =
       few = omega (arith, ap length at.put, length-insert bs index (made p size) at.within);
       rising = rising_put HEAP_START size p bs live.rising fits.above some (record { place = fits.multiple; multiple = multiple; some = some; above = fits.above; below = fits.below }) fits.clear;
     }
+
+-- ---- the same of lists alone
+
+length_gone : (p : ℕ) (bs : List Block) → length (set_block bs p 0) ≤ length bs
+length_gone p [] = omega arith
+length_gone p (b ∷ bs) = elim (cases_order b.at p) [
+  | inl e ↦ omega (arith, ap length (set_here b bs p 0 e))
+  | inr (inl h) ↦ omega (arith, ap length (set_below b bs p 0 h), length_gone p bs)
+  | inr (inr h) ↦ omega (arith, ap length (set_above b bs p 0 h))
+]
+
+pub freed_live : (bs : List Block) (p : ℕ) → AreLive bs → AreLive (set_block bs p 0)
+freed_live bs p live = record { few = omega (arith, live.few, length_gone p bs); rising = rising_gone HEAP_START p bs live.rising }
+
+gap_index_le : (low size : ℕ) (bs : List Block) → gap_index low size bs ≤ length bs
+gap_index_le low size [] = omega arith
+gap_index_le low size (b ∷ bs) = by (nat_le (low + size) b.at) (gap_index_le (block_end b) size bs)
+  where
+    by : (t : Bool) → gap_index (block_end b) size bs ≤ length bs → (if t then 0 else suc (gap_index (block_end b) size bs)) ≤ suc (length bs)
+    by true h = omega arith
+    by false h = omega arith
+
+pub placed_live : (bs : List Block) (size place : ℕ) → AreLive bs → fit bs size ≡ Some place → AreLive (set_block bs place (rounded size))
+placed_live bs size place live is = by (nat_lt (length bs) MOST_BLOCKS) refl is
+  where
+    by : (t : Bool) → nat_lt (length bs) MOST_BLOCKS ≡ t → (if t then first_gap HEAP_START (rounded size) bs else None) ≡ Some place → AreLive (set_block bs place (rounded size))
+    by true e i =
+        let some : 0 < rounded size = omega arith in
+        let put = put_first HEAP_START (rounded size) place bs some live.rising i in
+        live_put bs (rounded size) (gap_index HEAP_START (rounded size) bs) place live (ltb-true (length bs) MOST_BLOCKS e) some (omega arith)
+        (record { first = i; within = gap_index_le HEAP_START (rounded size) bs; room = put.2; put = put.0 })
+    by false e i = absurd cc

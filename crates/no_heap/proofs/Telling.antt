@@ -1,14 +1,12 @@
 -- Entries told of blocks, merged from the lowest place up.
-use Rattle.std.proofs.Common.{◌≡◌, ℕ, zero, suc, ◌+◌, ◌<◌, ◌≤◌, ◌==◌, ◌&&◌, ◌||◌, Bool, true, false, nat_le, nat_lt, if◌then◌else◌, Option, Some, None, List, [], ◌∷◌, ◌++◌, length, ◌⊎◌, inl, inr, refl, sym, ap, subst, ◌∙◌, arith, append_assoc, length-append}
-use Rattle.std.proofs.lemmas.Bool.{and_parts, and_from, or_right, or_from, leb-true, le-leb, lt-ltb, le-ltb, cond-true, cond-false, cases_lt}
-use Rattle.std.proofs.lemmas.List.{append-nil}
+use Rattle.std.proofs.Common.{◌≡◌, ℕ, ◌+◌, ◌<◌, ◌≤◌, ◌||◌, Bool, true, false, nat_le, nat_lt, if◌then◌else◌, Option, Some, None, List, [], ◌∷◌, ◌++◌, refl, sym, ap, ◌∙◌, arith, append_assoc}
+use Rattle.std.proofs.lemmas.Bool.{and_parts, and_from, or_right, or_from, leb-true, le-leb, lt-ltb, le-ltb, cond-true, cond-false}
 use Rattle.no_heap.specs.declared.block.Block.{Block}
 use Rattle.no_heap.specs.declared.block.Entry.{Entry}
-use Rattle.no_heap.specs.declared.block.TheConstants.{MOST_BLOCKS}
-use Rattle.no_heap.specs.Blocks.{AreLive, size_at, behind, set_block}
+use Rattle.no_heap.specs.Blocks.{size_at, behind, set_block}
 use Rattle.no_heap.specs.Changes.{rises_from, finds, told}
 use Rattle.no_heap.specs.Steps.{with_front}
-use Rattle.no_heap.proofs.Ordered.{IsOrdered, ordered_lower, size_past, size_here, none_below, behind_none, behind_some, set_below, set_here, set_above}
+use Rattle.no_heap.proofs.Ordered.{IsOrdered, size_past, size_here, none_below, behind_none, behind_some, set_below, set_here, set_above}
 
 -- ---- rising entries
 

@@ -1,5 +1,5 @@
 -- Where a new block goes: the least place at which it fits between the live ones.
-use Rattle.std.specs.Prelude.{ℕ, ◌+◌, ◌-◌, ◌%◌, ◌≡◌, ◌<◌, ◌≤◌, max, nat_le, nat_lt, if◌then◌else◌, ◌⊎◌, List, [], ◌∷◌, length, Option, Some, None, All}
+use Rattle.std.specs.Prelude.{ℕ, ◌+◌, ◌%◌, ◌≡◌, ◌<◌, ◌≤◌, max, nat_le, nat_lt, if◌then◌else◌, ◌⊎◌, List, [], ◌∷◌, length, Option, Some, None, All}
 use Rattle.std.specs.List.{insert}
 use Rattle.std.specs.Int.{next_multiple_of}
 use Rattle.no_heap.specs.declared.block.Block.{Block}

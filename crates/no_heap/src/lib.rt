@@ -15,4 +15,4 @@ mod tests;
 
 pub use block::{Block, Entry, HEAP_END, HEAP_START, HeapError, MOST_BLOCKS};
 pub use heap::Heap;
-pub use laws::changes_restore;
+pub use laws::{changes_restore, fit_is_least, live_blocks_stay};

@@ -4,10 +4,8 @@ use no_ir::Trap;
 use std::alloc::Global;
 use std::test::Fail;
 
-/// The first byte of the heap.
-const S: u32 = 0x1000_0000;
-
 /// A request for so many bytes with its place, or a free of an address with whether a block begins there.
+#[derive(Drop)]
 enum Call {
     Place(u64, Option<u32>),
     Free(u64, bool),
@@ -16,66 +14,66 @@ enum Call {
 #[test]
 fn script(rt: HostRuntime) -> Result<(), Fail> {
     let calls = [
-        Call::Place(1, Some(S)),
-        Call::Place(16, Some(S + 16)),
-        Call::Place(17, Some(S + 32)),
-        Call::Place(0, Some(S + 64)),
-        Call::Place(100, Some(S + 80)),
+        Call::Place(1, Some(0x1000_0000)),
+        Call::Place(16, Some(0x1000_0010)),
+        Call::Place(17, Some(0x1000_0020)),
+        Call::Place(0, Some(0x1000_0040)),
+        Call::Place(100, Some(0x1000_0050)),
         Call::Free(0x1000_0010, true),
-        Call::Place(17, Some(S + 192)),
-        Call::Place(16, Some(S + 16)),
+        Call::Place(17, Some(0x1000_00c0)),
+        Call::Place(16, Some(0x1000_0010)),
         Call::Free(0x1000_0000, true),
         Call::Free(0x1000_0010, true),
-        Call::Place(32, Some(S)),
+        Call::Place(32, Some(0x1000_0000)),
         Call::Free(0x1000_0010, false),
         Call::Free(0x1000_0008, false),
         Call::Free(0, true),
         Call::Free(0x1000_0020, true),
-        Call::Place(33, Some(S + 224)),
-        Call::Place(31, Some(S + 32)),
+        Call::Place(33, Some(0x1000_00e0)),
+        Call::Place(31, Some(0x1000_0020)),
         Call::Free(0x1000_0020, true),
         Call::Free(0x1000_0020, false),
-        Call::Place(8, Some(S + 32)),
-        Call::Place(16, Some(S + 48)),
+        Call::Place(8, Some(0x1000_0020)),
+        Call::Place(16, Some(0x1000_0030)),
         Call::Free(0x1000_0050, true),
-        Call::Place(64, Some(S + 80)),
-        Call::Place(64, Some(S + 272)),
-        Call::Place(48, Some(S + 144)),
+        Call::Place(64, Some(0x1000_0050)),
+        Call::Place(64, Some(0x1000_0110)),
+        Call::Place(48, Some(0x1000_0090)),
         Call::Free(0x1000_0040, true),
         Call::Free(0x1000_0050, true),
-        Call::Place(80, Some(S + 64)),
+        Call::Place(80, Some(0x1000_0040)),
         Call::Free(0x1000_00c0, true),
         Call::Free(0x1000_00e0, true),
         Call::Free(0x1000_0110, true),
         Call::Place(0x0400_0000, None),
-        Call::Place(0x03ff_ff40, Some(S + 192)),
+        Call::Place(0x03ff_ff40, Some(0x1000_00c0)),
         Call::Place(1, None),
         Call::Free(0x1000_0000, true),
         Call::Place(33, None),
-        Call::Place(32, Some(S)),
+        Call::Place(32, Some(0x1000_0000)),
         Call::Free(0x1000_00c0, true),
         Call::Place(0x03ff_ff41, None),
         Call::Place(0xffff_ffff_ffff_ffff, None),
-        Call::Place(0, Some(S + 192)),
+        Call::Place(0, Some(0x1000_00c0)),
         Call::Free(0x1000_0090, true),
-        Call::Place(47, Some(S + 144)),
+        Call::Place(47, Some(0x1000_0090)),
         Call::Free(0x1000_0030, true),
         Call::Free(0x1000_0020, true),
-        Call::Place(16, Some(S + 32)),
-        Call::Place(16, Some(S + 48)),
-        Call::Place(16, Some(S + 208)),
+        Call::Place(16, Some(0x1000_0020)),
+        Call::Place(16, Some(0x1000_0030)),
+        Call::Place(16, Some(0x1000_00d0)),
         Call::Free(0x1000_0000, true),
-        Call::Place(5, Some(S)),
-        Call::Place(5, Some(S + 16)),
-        Call::Place(5, Some(S + 224)),
+        Call::Place(5, Some(0x1000_0000)),
+        Call::Place(5, Some(0x1000_0010)),
+        Call::Place(5, Some(0x1000_00e0)),
         Call::Free(0x1000_0004, false),
         Call::Free(0xffff_ffff_ffff_ffff, false),
         Call::Free(0x1000_0040, true),
-        Call::Place(70, Some(S + 64)),
+        Call::Place(70, Some(0x1000_0040)),
         Call::Free(0x1000_0090, true),
         Call::Free(0x1000_0040, true),
-        Call::Place(128, Some(S + 64)),
-        Call::Place(1, Some(S + 240)),
+        Call::Place(128, Some(0x1000_0040)),
+        Call::Place(1, Some(0x1000_00f0)),
     ];
     let mut heap = Heap::new(rt.alloc())?;
     let mut number = 0u64;
@@ -92,37 +90,40 @@ fn script(rt: HostRuntime) -> Result<(), Fail> {
         number = number.saturating_add(1);
     }
     let left = [
-        Block { at: S, size: 16 },
         Block {
-            at: S + 16,
+            at: 0x1000_0000,
             size: 16,
         },
         Block {
-            at: S + 32,
+            at: 0x1000_0010,
             size: 16,
         },
         Block {
-            at: S + 48,
+            at: 0x1000_0020,
             size: 16,
         },
         Block {
-            at: S + 64,
+            at: 0x1000_0030,
+            size: 16,
+        },
+        Block {
+            at: 0x1000_0040,
             size: 128,
         },
         Block {
-            at: S + 192,
+            at: 0x1000_00c0,
             size: 16,
         },
         Block {
-            at: S + 208,
+            at: 0x1000_00d0,
             size: 16,
         },
         Block {
-            at: S + 224,
+            at: 0x1000_00e0,
             size: 16,
         },
         Block {
-            at: S + 240,
+            at: 0x1000_00f0,
             size: 16,
         },
     ];
@@ -132,40 +133,49 @@ fn script(rt: HostRuntime) -> Result<(), Fail> {
 
 #[test]
 fn first_bad_blocks(rt: HostRuntime) -> Result<(), Fail> {
-    let good = Block { at: S, size: 32 };
+    let good = Block {
+        at: 0x1000_0000,
+        size: 32,
+    };
     let rows = [
         (
             Block {
-                at: S + 16,
-                size: 16,
-            },
-            1,
-        ),
-        (Block { at: S, size: 32 }, 1),
-        (
-            Block {
-                at: S + 40,
+                at: 0x1000_0010,
                 size: 16,
             },
             1,
         ),
         (
             Block {
-                at: S + 48,
+                at: 0x1000_0000,
+                size: 32,
+            },
+            1,
+        ),
+        (
+            Block {
+                at: 0x1000_0028,
+                size: 16,
+            },
+            1,
+        ),
+        (
+            Block {
+                at: 0x1000_0030,
                 size: 8,
             },
             1,
         ),
         (
             Block {
-                at: S + 48,
+                at: 0x1000_0030,
                 size: 0,
             },
             1,
         ),
         (
             Block {
-                at: S - 16,
+                at: 0x0fff_fff0,
                 size: 16,
             },
             1,
@@ -193,7 +203,7 @@ fn first_bad_blocks(rt: HostRuntime) -> Result<(), Fail> {
         ),
         (
             Block {
-                at: S + 32,
+                at: 0x1000_0020,
                 size: 16,
             },
             2,
@@ -204,7 +214,7 @@ fn first_bad_blocks(rt: HostRuntime) -> Result<(), Fail> {
             good,
             second,
             Block {
-                at: S + 32,
+                at: 0x1000_0020,
                 size: 16,
             },
         ];
@@ -235,35 +245,44 @@ fn bad_of(alloc: Global, blocks: &[Block]) -> Option<HeapError> {
 #[test]
 fn changes_and_entries(rt: HostRuntime) -> Result<(), Fail> {
     let then = [
-        Block { at: S, size: 16 },
         Block {
-            at: S + 32,
+            at: 0x1000_0000,
+            size: 16,
+        },
+        Block {
+            at: 0x1000_0020,
             size: 32,
         },
         Block {
-            at: S + 96,
+            at: 0x1000_0060,
             size: 16,
         },
     ];
     let now = [
-        Block { at: S, size: 32 },
         Block {
-            at: S + 64,
+            at: 0x1000_0000,
+            size: 32,
+        },
+        Block {
+            at: 0x1000_0040,
             size: 16,
         },
         Block {
-            at: S + 96,
+            at: 0x1000_0060,
             size: 16,
         },
     ];
     let told = [
-        Entry { at: S, size: 32 },
         Entry {
-            at: S + 32,
+            at: 0x1000_0000,
+            size: 32,
+        },
+        Entry {
+            at: 0x1000_0020,
             size: 0,
         },
         Entry {
-            at: S + 64,
+            at: 0x1000_0040,
             size: 16,
         },
     ];
@@ -277,37 +296,61 @@ fn changes_and_entries(rt: HostRuntime) -> Result<(), Fail> {
     let refused = [
         [
             Entry {
-                at: S + 64,
+                at: 0x1000_0040,
                 size: 16,
             },
-            Entry { at: S, size: 16 },
-        ],
-        [Entry { at: S, size: 16 }, Entry { at: S, size: 16 }],
-        [
-            Entry { at: S, size: 0 },
             Entry {
-                at: S + 16,
+                at: 0x1000_0000,
+                size: 16,
+            },
+        ],
+        [
+            Entry {
+                at: 0x1000_0000,
+                size: 16,
+            },
+            Entry {
+                at: 0x1000_0000,
+                size: 16,
+            },
+        ],
+        [
+            Entry {
+                at: 0x1000_0000,
+                size: 0,
+            },
+            Entry {
+                at: 0x1000_0010,
                 size: 0,
             },
         ],
         [
-            Entry { at: S, size: 16 },
             Entry {
-                at: S + 48,
+                at: 0x1000_0000,
+                size: 16,
+            },
+            Entry {
+                at: 0x1000_0030,
                 size: 16,
             },
         ],
         [
-            Entry { at: S, size: 48 },
             Entry {
-                at: S + 112,
+                at: 0x1000_0000,
+                size: 48,
+            },
+            Entry {
+                at: 0x1000_0070,
                 size: 16,
             },
         ],
         [
-            Entry { at: S, size: 17 },
             Entry {
-                at: S + 112,
+                at: 0x1000_0000,
+                size: 17,
+            },
+            Entry {
+                at: 0x1000_0070,
                 size: 16,
             },
         ],
@@ -316,10 +359,16 @@ fn changes_and_entries(rt: HostRuntime) -> Result<(), Fail> {
                 at: 0x0fff_fff0,
                 size: 16,
             },
-            Entry { at: S, size: 16 },
+            Entry {
+                at: 0x1000_0000,
+                size: 16,
+            },
         ],
         [
-            Entry { at: S, size: 16 },
+            Entry {
+                at: 0x1000_0000,
+                size: 16,
+            },
             Entry {
                 at: 0x1400_0000,
                 size: 16,
@@ -330,7 +379,13 @@ fn changes_and_entries(rt: HostRuntime) -> Result<(), Fail> {
         assert_eq!(rt; heap.apply(entries), false, "{entries:?}");
         assert_eq!(rt; heap.blocks(), then.as_slice(), "{entries:?}");
     }
-    assert_eq!(rt; heap.apply(&[Entry { at: S, size: 16 }]), true);
+    assert_eq!(rt;
+        heap.apply(&[Entry {
+            at: 0x1000_0000,
+            size: 16
+        }]),
+        true
+    );
     assert_eq!(rt; heap.blocks(), then.as_slice());
     assert_eq!(rt; heap.apply(&told), true);
     assert_eq!(rt; heap.blocks(), now.as_slice());
@@ -343,7 +398,7 @@ fn full_heap(rt: HostRuntime) -> Result<(), Fail> {
     let mut blocks = Vec::new(rt.alloc());
     for index in 0..65_536u32 {
         blocks.push(Block {
-            at: S + 16 * index,
+            at: HEAP_START + 16 * index,
             size: 16,
         })?;
     }
@@ -354,12 +409,12 @@ fn full_heap(rt: HostRuntime) -> Result<(), Fail> {
         random = random
             .wrapping_mul(6_364_136_223_846_793_005)
             .wrapping_add(1_442_695_040_888_963_407);
-        let place = S + 16 * (random >> 48) as u32;
+        let place = HEAP_START + 16 * (random >> 48) as u32;
         assert_eq!(rt; heap.free(place as u64), Ok(()));
         assert_eq!(rt; heap.place(16), Some(place));
     }
     blocks.push(Block {
-        at: S + 0x10_0000,
+        at: 0x1010_0000,
         size: 16,
     })?;
     assert_eq!(rt;
@@ -368,7 +423,7 @@ fn full_heap(rt: HostRuntime) -> Result<(), Fail> {
     );
     assert_eq!(rt;
         heap.apply(&[Entry {
-            at: S + 0x10_0000,
+            at: 0x1010_0000,
             size: 16
         }]),
         false
