@@ -2,8 +2,8 @@
 use Rattle.std.specs.Prelude.{◌≡◌, ℕ, Bool, false, List, [], ◌++◌}
 use Rattle.no_model.specs.State.{State}
 use Rattle.no_model.specs.Step.{Next, Goes, Ends}
-use Rattle.no_machine.specs.declared.core.Acted.{Acted}
-use Rattle.no_machine.specs.declared.core.Acted.TheVariants as acted
+use Rattle.no_machine.specs.declared.state.Acted.{Acted}
+use Rattle.no_machine.specs.declared.state.Acted.TheVariants as acted
 
 -- old and new are the states; a page is wanted only where it is absent, and nothing was written
 abbrev pub Moves : Next → (ℕ → Bool) → Acted → State → State → Type 0

@@ -1,6 +1,11 @@
 //! The machine: it runs an accepted module over a memory, an instruction at a time.
 #![tactic(auto)]
 
+mod access;
+mod numbers;
+mod rows;
+mod state;
 mod steps;
+mod values;
 
 pub use steps::Steps;
