@@ -1,3 +1,4 @@
+pub mod Accesses
 pub mod Fields
 pub mod Formed
 pub mod Left
