@@ -4,7 +4,9 @@ ghost use Rattle.no_flat.specs.Flat.{AreFull};
 use crate::region::{Region, answer, is_written, locate, start_of};
 use crate::splice::{overwrite, zeros};
 use no_ir::{NoMemory, Trap};
-use no_layout::{Access, CONSTANTS_START, HEAP_END, HEAP_START, Memory, Regions, STACK_END, STACK_START};
+use no_layout::{
+    Access, CONSTANTS_START, HEAP_END, HEAP_START, Memory, Regions, STACK_END, STACK_START,
+};
 use std::alloc::Global;
 
 /// A memory with all its pages, which are taken at once.

@@ -1,11 +1,10 @@
 -- What the answer of an access tells.
-use Rattle.std.proofs.Common.{◌≡◌, ◌≢◌, ℕ, zero, suc, ◌+◌, ◌-◌, ◌*◌, ◌/◌, ◌<◌, ◌≤◌, ◌⊎◌, inl, inr, Bool, true, false, ◌&&◌, ◌||◌, nat_le, if◌then◌else◌, Option, Some, None, refl, sym, ap, ◌∙◌, arith}
-use Rattle.std.proofs.lemmas.Bool.{and_parts, cases_Bool, cases_lt, leb-true, or_cases}
+use Rattle.std.proofs.Common.{◌≡◌, ℕ, zero, suc, ◌+◌, ◌-◌, ◌<◌, ◌≤◌, ◌⊎◌, inl, inr, Bool, true, false, nat_le, if◌then◌else◌, Option, Some, None, refl, arith}
+use Rattle.std.proofs.lemmas.Bool.{and_parts, cases_lt, leb-true, or_cases}
 use Rattle.no_ir.specs.declared.ending.Trap.{Trap}
 use Rattle.no_ir.specs.declared.ending.Trap.TheVariants.{BadAddress, ConstantWrite}
 use Rattle.no_layout.specs.Memory.{AreFormed, access, answer, constants_start, first_absent, globals_start, heap_start, heap_end, in_constants, in_written, page_count, page_of, refusal, stack_start, stack_end, within}
 use Rattle.no_layout.specs.declared.memory.Regions.{Regions}
-use Rattle.no_layout.specs.declared.memory.Access.{Access}
 use Rattle.no_layout.specs.declared.memory.Access.TheVariants.{Done, Missing, Refused}
 
 -- ---- the three answers

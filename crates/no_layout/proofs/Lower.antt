@@ -1,5 +1,5 @@
 -- Named types that refer to lower ones alone have the same numbers by the whole table as by the part before them.
-use Rattle.std.proofs.Common.{append-nil, ◌≡◌, ℕ, zero, suc, ◌+◌, ◌<◌, ◌≤◌, Bool, true, false, ◌&&◌, nat_lt, List, [], ◌∷◌, ◌++◌, map, length, take, drop, Option, Some, None, slice_get, refl, sym, ap, subst, ◌∙◌, arith}
+use Rattle.std.proofs.Common.{append-nil, ◌≡◌, ℕ, zero, suc, ◌+◌, ◌<◌, Bool, true, List, [], ◌∷◌, ◌++◌, map, length, take, drop, Option, Some, None, slice_get, refl, sym, ap, subst, ◌∙◌, arith}
 use Rattle.std.specs.List.{fold, list_all}
 use Rattle.std.proofs.lemmas.Bool.{and_parts, ltb-true}
 use Rattle.std.proofs.lemmas.List.{append_assoc, take-append-drop, length-take-le}
@@ -7,7 +7,7 @@ use Rattle.std.proofs.lemmas.List.Sums.{fold-append, fold_more}
 use Rattle.std.proofs.lemmas.Option.{get_or_from_slice_get}
 use Rattle.no_ir.specs.declared.types.Ty.{Ty, roll-Ty}
 use Rattle.no_ir.specs.declared.types.Ty.TheOpen.{Ty-F}
-use Rattle.no_ir.specs.declared.types.Ty.TheFolds.{fold-Ty, ind-Ty, fold-roll-Ty, map-Ty}
+use Rattle.no_ir.specs.declared.types.Ty.TheFolds.{ind-Ty, fold-roll-Ty, map-Ty}
 use Rattle.no_layout.specs.Sizes.{AreLower, Measure, below_step, entry_below, entry_extent, entry_fits, extent_of, fields_of, fits_at, known, measure_of, measure_step, names_below, sizes_of, whole, with_type}
 use Rattle.no_layout.specs.declared.extent.Extent.{Extent}
 use Rattle.no_layout.specs.declared.layout.Layout.{Layout}
@@ -60,7 +60,7 @@ front_is : (l : Layout) (types : List (List ℕ × Ty)) (k : ℕ) → (rest : Li
 front_is l types k =
     let g = grows l (sizes_of l (take k types)) (drop k types) in
     let parted : sizes_of l types ≡ fold (with_type l) (sizes_of l (take k types)) (drop k types) =
-        ap (sizes_of l) (sym (take-append-drop k types)) ∙ fold-append (with_type l) [] (take k types) (drop k types) in
+    ap (sizes_of l) (sym (take-append-drop k types)) ∙ fold-append (with_type l) [] (take k types) (drop k types) in
     (g.0, parted ∙ g.1)
 
 get_front : (xs ys : List Extent) (j : ℕ) → j < length xs → slice_get (xs ++ ys) j ≡ slice_get xs j
@@ -84,7 +84,7 @@ entry_in l types k (Some named) lt e =
     let before = sizes_of l (take k types) in
     let len : length before ≡ k = table_length l (take k types) ∙ length-take-le k types (omega arith) in
     let next : sizes_of l (take (k + 1) types) ≡ before ++ extent_of (measure_of l before named.1) ∷ [] =
-        fold_more (with_type l) [] types k named lt ∙ ap (with_type l before) (get_or_from_slice_get types k named named e) in
+    fold_more (with_type l) [] types k named lt ∙ ap (with_type l before) (get_or_from_slice_get types k named named e) in
     let f = front_is l types (k + 1) in
     let long : length (sizes_of l (take (k + 1) types)) ≡ k + 1 = table_length l (take (k + 1) types) ∙ length-take-le (k + 1) types (omega arith) in
     ap (λ (xs : List Extent). slice_get xs k) f.1

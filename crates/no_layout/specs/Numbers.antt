@@ -2,7 +2,6 @@
 use Rattle.std.specs.Prelude.{◌≡◌, ℕ, Bool, true, false, List, length}
 use Rattle.no_layout.specs.Memory.{access, read_number, write_number, written}
 use Rattle.no_layout.specs.declared.memory.Regions.{Regions}
-use Rattle.no_layout.specs.declared.memory.Access.{Access}
 use Rattle.no_layout.specs.declared.memory.Access.TheVariants as access'
 use Rattle.no_layout.specs.declared.numbers.Loaded.{Loaded}
 use Rattle.no_layout.specs.declared.numbers.Loaded.TheVariants as loaded

@@ -37,5 +37,4 @@ impl Layout {
 pub fn sizes_hold_for_all_types()
     ensures fit { (l : Layout) (types : List (List ℕ × Ty)) (k : ℕ) → AreLower types → k < length types → fits_at l types k ≡ entry_fits l (sizes_of l types) (slice_get types k) }
     ensures numbers { (l : Layout) (types : List (List ℕ × Ty)) (k : ℕ) → AreLower types → k < length types → slice_get (sizes_of l types) k ≡ entry_extent l (sizes_of l types) (slice_get types k) }
-{
-}
+{}

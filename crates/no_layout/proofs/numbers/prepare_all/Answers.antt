@@ -1,4 +1,4 @@
-use Rattle.std.proofs.Common.{◌∙◌, ◌≡◌, ◌≤◌, ◌+◌, ◌-◌, ap, ℕ, Bool, true, arith}
+use Rattle.std.proofs.Common.{◌∙◌, ap, ℕ, Bool, true, arith}
 use Rattle.no_layout.proofs.Accesses.{done_held}
 use Rattle.no_layout.proofs.numbers.prepare_all.Goals as goal
 
