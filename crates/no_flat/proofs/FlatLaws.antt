@@ -1,11 +1,10 @@
 -- A memory with all its pages: what accesses answer, and what reads and writes of a region do.
-use Rattle.std.proofs.Common.{◌≡◌, ℕ, zero, suc, ◌+◌, ◌-◌, ◌<◌, ◌≤◌, inl, inr, Bool, true, false, ◌&&◌, nat_le, List, length, take, drop, Option, Some, None, refl, sym, ap, ◌∙◌, arith}
-use Rattle.std.proofs.lemmas.Bool.{and_parts, and_right, and_left, leb-true, lt-leb}
+use Rattle.std.proofs.Common.{◌≡◌, ℕ, zero, suc, ◌+◌, ◌-◌, ◌<◌, ◌≤◌, inl, Bool, true, false, nat_le, List, length, take, drop, Option, Some, None, refl, ap, ◌∙◌, arith}
+use Rattle.std.proofs.lemmas.Bool.{and_parts, and_right, leb-true, lt-leb}
 use Rattle.no_layout.specs.Memory.{AreFormed, access, first_absent, globals_start, constants_start, heap_start, heap_end, stack_start, stack_end, page_of, page_count, read_bytes, within, written}
 use Rattle.no_layout.specs.Memory.{AreZero, splice}
 use Rattle.no_flat.specs.Flat.{AreFull, IsLocated, answered, bytes_in, end_of, flat, is_written, start_of}
 use Rattle.no_layout.specs.declared.memory.Regions.{Regions}
-use Rattle.no_layout.specs.declared.memory.Access.{Access}
 use Rattle.no_layout.specs.declared.memory.Access.TheVariants.{Done, Refused}
 use Rattle.no_ir.specs.declared.ending.Trap.TheVariants.{ConstantWrite}
 use Rattle.no_flat.specs.declared.region.Region.{Region}

@@ -1,5 +1,5 @@
 -- A memory with all its pages: each region's bytes over zeros.
-use Rattle.std.specs.Prelude.{◌≡◌, ℕ, ◌+◌, ◌-◌, ◌≤◌, ◌<◌, Bool, true, false, if◌then◌else◌, List, length, Option, Some, None}
+use Rattle.std.specs.Prelude.{◌≡◌, ℕ, ◌+◌, Bool, true, false, if◌then◌else◌, List, length, Option, Some, None}
 use Rattle.no_layout.specs.Memory.{constants_start, globals_start, heap_start, heap_end, stack_start, stack_end, within, written}
 use Rattle.no_ir.specs.declared.ending.Trap.TheVariants.{BadAddress, ConstantWrite}
 use Rattle.no_layout.specs.declared.memory.Regions.{Regions}

@@ -1,9 +1,14 @@
 -- What a flat memory holds.
 use Rattle.std.specs.Prelude.{ℕ, List}
 use Rattle.no_layout.specs.Memory.{globals_start}
+use Rattle.no_layout.specs.declared.memory.Regions.{Regions}
 use Rattle.no_flat.specs.Flat.{bytes_in, flat}
 use Rattle.no_flat.specs.declared.flat.FlatMemory.{FlatMemory}
 use Rattle.no_flat.specs.declared.region.Region.{Region}
+
+-- where its constants and globals end
+abbrev pub regions_of : FlatMemory → Regions
+regions_of m = m.regions
 
 -- the byte at an address
 abbrev pub byte_of : FlatMemory → ℕ → ℕ

@@ -4,11 +4,13 @@ ghost use Rattle.no_flat.specs.Flat.{AreFull};
 use crate::region::{Region, answer, is_written, locate, start_of};
 use crate::splice::{overwrite, zeros};
 use no_ir::{NoMemory, Trap};
-use no_layout::{Access, Memory, Regions};
+use no_layout::{
+    Access, CONSTANTS_START, HEAP_END, HEAP_START, Memory, Regions, STACK_END, STACK_START,
+};
 use std::alloc::Global;
 
 /// A memory with all its pages, which are taken at once.
-#[derive(Debug, Drop)]
+#[derive(Drop)]
 pub struct FlatMemory {
     regions: Regions,
     constants: Vec<u8>,
@@ -23,19 +25,21 @@ impl FlatMemory {
     ghost use Rattle.std.specs.Prelude.{◌≡◌, ◌-◌, ℕ, IfOk, length, true};
     ghost use Rattle.no_layout.specs.Memory.{read_bytes, within, written};
     ghost use Rattle.no_flat.specs.Flat.{IsInRegion, end_of, start_of};
-    ghost use Rattle.no_flat.specs.FlatBytes.{byte_of, region_bytes};
+    ghost use Rattle.no_flat.specs.FlatBytes.{byte_of, region_bytes, regions_of};
 
     /// A memory of zeros with these ends.
     pub fn new(alloc: Global, regions: Regions) -> Result<FlatMemory, NoMemory>
         requires { AreFormed regions }
-        ensures regions { IfOk result (λ m. m.regions ≡ regions) }
+        ensures regions { IfOk result (λ m. regions_of m ≡ regions) }
         ensures zeros { IfOk result (λ m. byte_of m ≡ λ a. 0) }
     {
-        let globals_start = start_of(&regions, Region::Globals);
-        let constants = zeros(alloc, (regions.constants_end - 0x0001_0000) as usize)?;
-        let globals = zeros(alloc, (u64::from(regions.globals_end) - globals_start) as usize)?;
-        let heap = zeros(alloc, 0x0400_0000)?;
-        let stack = zeros(alloc, 0x0010_0000)?;
+        let constants = zeros(alloc, (regions.constants_end - CONSTANTS_START) as usize)?;
+        let globals = zeros(
+            alloc,
+            (regions.globals_end - regions.globals_start()) as usize,
+        )?;
+        let heap = zeros(alloc, (HEAP_END - HEAP_START) as usize)?;
+        let stack = zeros(alloc, (STACK_END - STACK_START) as usize)?;
         Ok(FlatMemory {
             regions,
             constants,
@@ -47,8 +51,8 @@ impl FlatMemory {
 
     /// Writes the first bytes of a program, constants too. They lie in one region.
     pub fn fill(&mut self, addr: u32, bytes: &[u8])
-        requires { IsInRegion self.old.regions addr (length bytes.now) }
-        ensures regions { self.new.regions ≡ self.old.regions }
+        requires { IsInRegion (regions_of self.old) addr (length bytes.now) }
+        ensures regions { regions_of self.new ≡ regions_of self.old }
         ensures bytes { byte_of self.new ≡ written (byte_of self.old) addr bytes.now }
     {
         if let Some(region) = locate(&self.regions, u64::from(addr), bytes.len() as u64) {
@@ -81,7 +85,7 @@ impl FlatMemory {
     /// Writes bytes that lie in a region.
     fn write(&mut self, region: Region, addr: u64, bytes: &[u8])
         requires { within (start_of self.old.regions region) (end_of self.old.regions region) addr (length bytes.now) ≡ true }
-        ensures regions { self.new.regions ≡ self.old.regions }
+        ensures regions { regions_of self.new ≡ regions_of self.old }
         ensures bytes { byte_of self.new ≡ written (byte_of self.old) addr bytes.now }
     {
         let at = (addr - start_of(&self.regions, region)) as usize;
@@ -96,11 +100,14 @@ impl FlatMemory {
 
 impl Memory for FlatMemory {
     ghost use Rattle.std.specs.Prelude.{true};
-    ghost use Rattle.no_flat.specs.FlatBytes.{byte_of};
+    ghost use Rattle.no_flat.specs.FlatBytes.{byte_of, regions_of};
 
-    ghost regions = { λ m. m.regions };
+    ghost regions = { regions_of };
+
     ghost byte = { byte_of };
+
     ghost held = { λ m page. true };
+
     ghost prepared = { λ m page. true };
 
     fn regions(&self) -> Regions {

@@ -6,3 +6,6 @@ mod region;
 mod splice;
 
 pub use flat::FlatMemory;
+
+#[cfg(test)]
+mod tests;

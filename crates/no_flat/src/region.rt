@@ -1,9 +1,9 @@
 ghost use Rattle.std.specs.Prelude.{◌≡◌, ◌<◌, true};
-ghost use Rattle.no_layout.specs.Memory.{AreFormed, globals_start, within};
+ghost use Rattle.no_layout.specs.Memory.{AreFormed, within};
 ghost use Rattle.no_flat.specs.Flat.{IsLocated, answered, end_of, is_written, start_of};
 
 use no_ir::Trap;
-use no_layout::{Access, Regions};
+use no_layout::{Access, CONSTANTS_START, HEAP_END, HEAP_START, Regions, STACK_END, STACK_START};
 
 /// A region of a program's memory.
 #[derive(Clone, Copy, Debug, PartialEq, Eq)]
@@ -20,10 +20,10 @@ pub fn start_of(regions: &Regions, region: Region) -> u64
     ensures { result ≡ start_of regions.now region }
 {
     match region {
-        Region::Constants => 0x0001_0000,
-        Region::Globals => globals_start(regions),
-        Region::Heap => 0x1000_0000,
-        Region::Stack => 0x2000_0000,
+        Region::Constants => u64::from(CONSTANTS_START),
+        Region::Globals => u64::from(regions.globals_start()),
+        Region::Heap => u64::from(HEAP_START),
+        Region::Stack => u64::from(STACK_START),
     }
 }
 
@@ -34,17 +34,9 @@ fn end_of(regions: &Regions, region: Region) -> u64
     match region {
         Region::Constants => u64::from(regions.constants_end),
         Region::Globals => u64::from(regions.globals_end),
-        Region::Heap => 0x1400_0000,
-        Region::Stack => 0x2010_0000,
+        Region::Heap => u64::from(HEAP_END),
+        Region::Stack => u64::from(STACK_END),
     }
-}
-
-/// Where globals begin: at the least multiple of 65,536 that is not below the constants' end.
-fn globals_start(regions: &Regions) -> u64
-    requires { AreFormed regions.now }
-    ensures { result ≡ globals_start regions.now }
-{
-    u64::from(regions.constants_end).next_multiple_of(65_536)
 }
 
 /// Whether a region has all of so many bytes from an address on.

@@ -1,5 +1,5 @@
 -- The fields of a struct, one by one from the front.
-use Rattle.std.proofs.Common.{◌≡◌, ℕ, ◌+◌, ◌<◌, ◌≤◌, Bool, true, false, ◌&&◌, List, [], ◌∷◌, map, length, get_or, take, drop, ◌++◌, ◌⊎◌, inl, inr, Option, Some, slice_get, refl, sym, ap, subst, ◌∙◌, arith, max, if◌then◌else◌, nat_le}
+use Rattle.std.proofs.Common.{◌≡◌, ℕ, ◌+◌, ◌<◌, ◌≤◌, Bool, true, false, List, [], ◌∷◌, map, length, get_or, take, drop, ◌⊎◌, inl, inr, Option, Some, slice_get, refl, sym, ap, subst, ◌∙◌, arith}
 use Rattle.std.specs.List.{fold}
 use Rattle.std.specs.Int.{next_multiple_of}
 use Rattle.std.specs.Option.{option_map}
@@ -8,7 +8,7 @@ use Rattle.std.proofs.lemmas.Bool.{and_left, and_right, both_ways, lt-leb}
 use Rattle.std.proofs.lemmas.List.{at_drop_more, take-append-drop, map-append}
 use Rattle.std.proofs.lemmas.List.Sums.{fold-append}
 use Rattle.no_ir.specs.declared.types.Ty.{Ty}
-use Rattle.no_layout.specs.Sizes.{Measure, fields_of, measure, no_fields, offset_in, place_after, size_limit, whole, with_field}
+use Rattle.no_layout.specs.Sizes.{Measure, fields_of, no_fields, offset_in, place_after, size_limit, whole, with_field}
 use Rattle.no_layout.specs.Measured.{Agrees}
 use Rattle.no_layout.specs.Measures.{reached}
 use Rattle.no_layout.specs.declared.extent.Extent.{Extent}

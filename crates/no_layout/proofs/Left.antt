@@ -1,8 +1,8 @@
 -- What a data layout string says, piece by piece from the front.
-use Rattle.std.proofs.Common.{◌≡◌, ℕ, ◌+◌, ◌<◌, List, [], ◌∷◌, length, Result, Ok, Err, ◌==◌, refl, sym, ap, ◌∙◌, arith}
+use Rattle.std.proofs.Common.{◌≡◌, ℕ, ◌+◌, ◌<◌, List, [], ◌∷◌, length, Result, Ok, Err, ◌==◌, refl, sym, ◌∙◌, arith}
 use Rattle.std.specs.List.{slice_split}
 use Rattle.no_layout.specs.Part.{part_of}
-use Rattle.no_layout.specs.Text.{layout_of, ordered, pieces, unstated}
+use Rattle.no_layout.specs.Text.{layout_of, ordered, unstated}
 use Rattle.no_layout.specs.Stated.{left, with_part}
 use Rattle.no_layout.specs.declared.part.Part.{Part}
 use Rattle.no_layout.specs.declared.part.Part.TheVariants.{Order, Pointer, Integer, Other}

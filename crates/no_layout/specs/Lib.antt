@@ -3,6 +3,7 @@ pub mod Laws
 pub mod Measured
 pub mod Measures
 pub mod Memory
+pub mod Numbers
 pub mod Orders
 pub mod Part
 pub mod Sizes

@@ -1,5 +1,5 @@
 -- Measures of numbers that are known to fit.
-use Rattle.std.specs.Prelude.{◌≡◌, ◌<◌, ◌≤◌, ◌⊎◌, false, true, Option, Some, None}
+use Rattle.std.specs.Prelude.{◌≡◌, ◌<◌, ◌⊎◌, false, true, Option, Some, None}
 use Rattle.no_layout.specs.Sizes.{Measure, size_limit}
 use Rattle.no_layout.specs.Measured.{IsSmall}
 use Rattle.no_layout.specs.declared.extent.Extent.{Extent}

@@ -1,6 +1,6 @@
 -- Sizes, alignments and offsets of types under a layout (LLVM Language Reference, "Data Layout"; docs/FORMATS.md, "Sizes").
-use Rattle.std.specs.Prelude.{◌≡◌, ℕ, ◌+◌, ◌*◌, ◌/◌, ◌<◌, ◌≤◌, max, Bool, true, false, ◌&&◌, ◌||◌, nat_le, ◌==◌, if◌then◌else◌, List, [], ◌∷◌, ◌++◌, map, length, take, slice_get, slice_index, Option, Some, None, IsTrue}
-use Rattle.std.specs.List.{fold}
+use Rattle.std.specs.Prelude.{◌≡◌, ℕ, ◌+◌, ◌*◌, ◌/◌, ◌<◌, max, Bool, true, false, ◌&&◌, ◌||◌, nat_le, nat_lt, ◌==◌, if◌then◌else◌, List, [], ◌∷◌, ◌++◌, map, length, take, slice_get, slice_index, Option, Some, None}
+use Rattle.std.specs.List.{fold, list_all}
 use Rattle.std.specs.Int.{next_multiple_of}
 use Rattle.no_ir.specs.declared.types.Ty.{Ty, out-Ty}
 use Rattle.no_ir.specs.declared.types.Ty.TheOpen.{Ty-F}
@@ -156,3 +156,28 @@ field_count _ = 0
 -- a type is a struct with a field k
 abbrev pub HasField : Ty → ℕ → Type 0
 HasField t k = k < field_count (out-Ty t)
+
+-- ---- named types that refer to lower ones alone
+
+abbrev pub below_step : ℕ → Ty-F Bool → Bool
+below_step k (Ty-F.Array count element) = element
+below_step k (Ty-F.Struct packed fields) = list_all (λ field. field) fields
+below_step k (Ty-F.Named j) = nat_lt j k
+below_step k _ = true
+
+-- whether each named type inside a type has a number below k
+abbrev pub names_below : ℕ → Ty → Bool
+names_below k = fold-Ty Bool (below_step k)
+
+abbrev pub entry_below : ℕ → Option (List ℕ × Ty) → Bool
+entry_below k None = true
+entry_below k (Some named) = names_below k named.1
+
+-- each named type refers to lower numbers alone
+abbrev pub AreLower : List (List ℕ × Ty) → Type 0
+AreLower types = (k : ℕ) → k < length types → entry_below k (slice_get types k) ≡ true
+
+-- the numbers of an entry, where `sizes` has those of the named types
+abbrev pub entry_extent : Layout → List Extent → Option (List ℕ × Ty) → Option Extent
+entry_extent l sizes None = None
+entry_extent l sizes (Some named) = Some (extent_of (measure_of l sizes named.1))

@@ -1,5 +1,5 @@
 -- How a loop over the parts of a data layout string keeps what they state.
-use Rattle.std.specs.Prelude.{ℕ, Bool, true, ◌&&◌, ◌||◌, nat_lt, ◌==◌, List, slice_set, Option, Some, None, Result, Ok, Err}
+use Rattle.std.specs.Prelude.{ℕ, Bool, true, ◌&&◌, ◌||◌, nat_lt, ◌==◌, List, slice_set, Some, Result}
 use Rattle.no_layout.specs.Part.{is_alignment}
 use Rattle.no_layout.specs.Text.{first_fault, stated, judged}
 use Rattle.no_layout.specs.declared.fault.LayoutFault.{LayoutFault}

@@ -3,7 +3,7 @@ use Rattle.std.specs.Prelude.{ℕ, ◌+◌, Bool, ◌&&◌, ◌||◌, ◌==◌, 
 use Rattle.std.specs.List.{slice_split, list_all}
 use Rattle.no_layout.specs.Part.{part_of, is_alignment}
 use Rattle.no_layout.specs.declared.part.Part.{Part}
-use Rattle.no_layout.specs.declared.part.Part.TheVariants.{Order, Pointer, Integer, Other}
+use Rattle.no_layout.specs.declared.part.Part.TheVariants.{Order, Pointer, Integer}
 use Rattle.no_layout.specs.declared.fault.LayoutKind.{LayoutKind}
 use Rattle.no_layout.specs.declared.fault.LayoutKind.TheVariants.{NoOrder}
 use Rattle.no_layout.specs.declared.fault.LayoutFault.{LayoutFault}

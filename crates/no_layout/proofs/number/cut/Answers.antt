@@ -1,4 +1,4 @@
-use Rattle.std.proofs.Common.{◌≡◌, ◌==◌, ◌+◌, ◌∙◌, sym, ap, ℕ, List, drop, add-zero, arith}
+use Rattle.std.proofs.Common.{◌==◌, ◌∙◌, sym, ap, drop}
 use Rattle.std.proofs.lemmas.List.{drop-drop}
 use Rattle.no_layout.proofs.Split.{split_some, split_none}
 use Rattle.no_layout.proofs.number.cut.Goals as goal

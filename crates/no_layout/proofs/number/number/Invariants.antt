@@ -1,4 +1,4 @@
-use Rattle.std.proofs.Common.{◌≡◌, ◌≤◌, true, take, min}
+use Rattle.std.proofs.Common.{◌≡◌, true, take, min}
 use Rattle.std.specs.List.{list_all}
 use Rattle.no_layout.specs.Field.{is_digit, value_of}
 use Rattle.no_layout.proofs.number.number.Given as goal

@@ -1,4 +1,4 @@
-use Rattle.std.proofs.Common.{length, false, Some, None}
+use Rattle.std.proofs.Common.{length, false, None}
 use Rattle.no_flat.proofs.FlatLaws.{answer_is, read_done}
 use Rattle.no_flat.proofs.flat.FlatMemoryMemory.get.Goals as goal
 

@@ -1,5 +1,5 @@
 use Rattle.std.proofs.Common.{length, true, None, sym}
-use Rattle.no_flat.proofs.FlatLaws.{answer_is, write_done, write_refused}
+use Rattle.no_flat.proofs.FlatLaws.{answer_is, write_done}
 use Rattle.no_flat.proofs.flat.FlatMemoryMemory.put.Goals as goal
 
 pub returns-in-None-clause-answer : goal.returns-in-None-clause-answer
