@@ -1,5 +1,8 @@
 -- What an instruction did, beside the definition that says what it does.
-use Rattle.std.specs.Prelude.{◌≡◌, ℕ, Bool, false, List, [], ◌++◌}
+use Rattle.std.specs.Prelude.{◌≡◌, ℕ, Bool, false, List, [], ◌++◌, Option, Some, None}
+use Rattle.no_ir.specs.declared.instruction.Op.{Op}
+use Rattle.no_ir.specs.declared.instruction.Op.TheVariants as op
+use Rattle.no_ir.specs.declared.instruction.Instr.{Instr}
 use Rattle.no_model.specs.State.{State}
 use Rattle.no_model.specs.Step.{Next, Goes, Ends}
 use Rattle.no_machine.specs.declared.state.Acted.{Acted}
@@ -18,3 +21,13 @@ Acts next held acted.Went old new before after = (bytes : List ℕ) × (next ≡
 Acts next held (acted.Ended e) old new before after = (next ≡ Ends e) × (new ≡ old) × (after ≡ before)
 Acts next held (acted.WantPage page) old new before after = (new ≡ old) × (held page ≡ false) × (after ≡ before)
 Acts next held acted.NoMemory old new before after = (new ≡ old) × (after ≡ before)
+
+-- the instructions that take memory: a store readies pages, and a call may write output
+abbrev pub OpTakesMemory : Op → Type 0
+OpTakesMemory (op.Store volatile t v a) = Unit {0}
+OpTakesMemory (op.Call t g args) = Unit {0}
+OpTakesMemory _ = ⊥
+
+abbrev pub MayLackMemory : Option Instr → Type 0
+MayLackMemory None = ⊥
+MayLackMemory (Some i) = OpTakesMemory i.op

@@ -4,8 +4,8 @@ use Rattle.no_ir.specs.declared.ending.Trap.{Trap}
 use Rattle.no_layout.specs.Memory.{write_number}
 use Rattle.no_machine.specs.declared.numbers.Fetched.{Fetched}
 use Rattle.no_machine.specs.declared.numbers.Fetched.TheVariants as fetched
-use Rattle.no_machine.specs.declared.numbers.Stored.{Stored}
-use Rattle.no_machine.specs.declared.numbers.Stored.TheVariants as stored
+use Rattle.no_machine.specs.declared.numbers.Put.{Put}
+use Rattle.no_machine.specs.declared.numbers.Put.TheVariants as put
 
 -- refused is why the access is not allowed, if it is not; n is the number that stands there
 abbrev pub IsFetched : Fetched → Option Trap → (ℕ → Bool) → ℕ → Type 0
@@ -14,8 +14,8 @@ IsFetched (fetched.Missing page) refused held n = held page ≡ false
 IsFetched (fetched.Refused t) refused held n = refused ≡ Some t
 
 -- what became of the memory: written is the memory with the number
-abbrev pub IsStored : Stored → Option Trap → (ℕ → Bool) → (old new written : ℕ → ℕ) → Type 0
-IsStored stored.Done refused held old new written = (refused ≡ None) × (new ≡ written)
-IsStored (stored.Missing page) refused held old new written = (held page ≡ false) × (new ≡ old)
-IsStored (stored.Refused t) refused held old new written = (refused ≡ Some t) × (new ≡ old)
-IsStored stored.NoMemory refused held old new written = new ≡ old
+abbrev pub IsStored : Put → Option Trap → (ℕ → Bool) → (old new written : ℕ → ℕ) → Type 0
+IsStored put.Done refused held old new written = (refused ≡ None) × (new ≡ written)
+IsStored (put.Missing page) refused held old new written = (held page ≡ false) × (new ≡ old)
+IsStored (put.Refused t) refused held old new written = (refused ≡ Some t) × (new ≡ old)
+IsStored put.NoMemory refused held old new written = new ≡ old

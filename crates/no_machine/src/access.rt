@@ -1,4 +1,4 @@
-ghost use Rattle.std.specs.Prelude.{◌≡◌, ◌≢◌, ◌+◌, ◌*◌, ◌<◌, ◌≤◌, ◌%◌, ◌^◌, map, true, ℕ};
+ghost use Rattle.std.specs.Prelude.{◌≡◌, ◌≢◌, ◌+◌, ◌*◌, ◌<◌, ◌≤◌, ◌%◌, ◌^◌, ◌∷◌, [], map, true};
 ghost use Rattle.no_layout.specs.Sizes.{type_align, type_stride};
 ghost use Rattle.no_model.specs.Image.{stated_or};
 ghost use Rattle.no_model.specs.Sound.{align_fits, count_fits, indices_fit, is_scalar, is_width, operand_fits, type_fits};
@@ -12,7 +12,7 @@ use no_ir::{End, Operand, Trap, Ty};
 use no_layout::{Memory, STACK_START};
 use no_model::Sound;
 
-use crate::numbers::{Fetched, Stored, fetch, store};
+use crate::numbers::{Fetched, Put, fetch, put_number};
 use crate::state::{Acted, Core};
 use crate::values::{narrowed, pointer_width, resized, width_at};
 
@@ -68,6 +68,14 @@ fn align_of(sound: &Sound, t: &Ty, align: Option<u32>) -> u64
     }
 }
 
+/// How far two values of a type are apart, in bytes.
+fn stride_of(sound: &Sound, t: &Ty) -> u64
+    requires { type_fits sound.now.layout sound.now.sizes t.now ≡ true }
+    ensures { result ≡ type_stride sound.now.layout sound.now.sizes t.now }
+{
+    sound.layout().stride(sound.sizes(), t)
+}
+
 impl<M: Memory> Core<M> {
     /// How many values an `alloca` makes room for.
     fn count(&self, sound: &Sound, count: &Option<(u8, Operand)>) -> u64
@@ -78,6 +86,21 @@ impl<M: Memory> Core<M> {
             None => 1,
             Some((w, a)) => self.value(sound, *w, a),
         }
+    }
+
+    /// Where the stack pointer stands below so many values of a type.
+    fn room(&self, sound: &Sound, t: &Ty, count: &Option<(u8, Operand)>, align: Option<u32>) -> Option<u32>
+        requires fits { type_fits sound.now.layout sound.now.sizes t.now ≡ true }
+        requires count { count_fits count.now ≡ true }
+        requires align { align_fits align ≡ true }
+        ensures { result ≡ lowered self.now.sp (count_in (program_in M.regions sound.now self.now) count.now (state_in M.byte self.now) * type_stride sound.now.layout sound.now.sizes t.now) (stated_or align (type_align sound.now.layout sound.now.sizes t.now)) }
+    {
+        lower_by(
+            self.sp,
+            self.count(sound, count),
+            stride_of(sound, t),
+            align_of(sound, t, align),
+        )
     }
 
     /// Room on the stack.
@@ -91,9 +114,7 @@ impl<M: Memory> Core<M> {
         ensures kept { IsKept M.regions M.held self.old self.new }
         ensures enough { result ≢ Acted.NoMemory }
     {
-        let many = self.count(sound, count);
-        let stride = sound.layout().stride(sound.sizes(), t);
-        match lower_by(self.sp, many, stride, align_of(sound, t, align)) {
+        match self.room(sound, t, count, align) {
             None => Acted::Ended(End::Trapped(Trap::StackOverflow)),
             Some(place) => {
                 self.sp = place;
@@ -138,14 +159,14 @@ impl<M: Memory> Core<M> {
         let w = width_at(sound, t);
         let at = self.value(sound, pointer_width(sound), a);
         let n = self.value(sound, w, v);
-        match store(&mut self.mem, sound.layout().big, at, bytes_of(w), n) {
-            Stored::Done => {
+        match put_number(&mut self.mem, sound.layout().big, at, bytes_of(w), n) {
+            Put::Done => {
                 self.assign(None, 0);
                 Acted::Went
             }
-            Stored::Missing(page) => Acted::WantPage(page),
-            Stored::Refused(trap) => Acted::Ended(End::Trapped(trap)),
-            Stored::NoMemory => Acted::NoMemory,
+            Put::Missing(page) => Acted::WantPage(page),
+            Put::Refused(trap) => Acted::Ended(End::Trapped(trap)),
+            Put::NoMemory => Acted::NoMemory,
         }
     }
 
@@ -158,15 +179,23 @@ impl<M: Memory> Core<M> {
         resized(w, pointer_width(sound), self.value(sound, w, a))
     }
 
-    /// How far the indices lead, as far as 2^64 can tell.
+    /// How far one index leads, modulo 2^64.
     #[tactic(auto, using(crate::proofs::Offsets::one_index))]
+    fn stepped(&self, sound: &Sound, t: &Ty, index: u64) -> u64
+        requires { type_fits sound.now.layout sound.now.sizes t.now ≡ true }
+        ensures { result ≡ gep_offset (program_in M.regions sound.now self.now) t.now (index ∷ []) % 2 ^ 64 }
+    {
+        index.wrapping_mul(stride_of(sound, t))
+    }
+
+    /// How far the indices lead, modulo 2^64.
     fn offset(&self, sound: &Sound, t: &Ty, indices: &[(u8, Operand)]) -> u64
         requires fits { type_fits sound.now.layout sound.now.sizes t.now ≡ true }
         requires indices { indices_fit indices.now ≡ true }
         ensures { result ≡ gep_offset (program_in M.regions sound.now self.now) t.now (map (index_value (program_in M.regions sound.now self.now) self.now.frame.registers) indices.now) % 2 ^ 64 }
     {
         match indices {
-            [(w, a)] => self.index(sound, *w, a).wrapping_mul(sound.layout().stride(sound.sizes(), t)),
+            [(w, a)] => self.stepped(sound, t, self.index(sound, *w, a)),
             _ => 0,
         }
     }

@@ -2,10 +2,14 @@
 #![tactic(auto)]
 
 mod access;
+mod act;
+mod calls;
+mod machine;
 mod numbers;
 mod rows;
 mod state;
 mod steps;
 mod values;
 
+pub use machine::{Machine, StepAnswer};
 pub use steps::Steps;

@@ -1,7 +1,10 @@
-ghost use Rattle.std.specs.Prelude.{◌≡◌, ◌+◌};
+ghost use Rattle.std.specs.Prelude.{◌≡◌};
+ghost use Rattle.no_machine.specs.Counted.{counted};
 
 use std::marker::Model;
 use std::sync::ledger::{Blank, Book, Ledger, Share};
+
+use no_ir::Role;
 
 
 /// How many instructions were counted: those of source modules and those of servers' parts.
@@ -37,10 +40,13 @@ impl<L: Ledger> Steps<L> {
         Steps { book, source, part }
     }
 
-    /// Counts instructions of a source module.
-    pub(crate) fn count_source(&mut self, n: u64)
-        ensures { self.new ≡ record { source = self.old.source + n; part = self.old.part } }
+    /// Counts instructions of a module of a role.
+    pub(crate) fn count(&mut self, role: Role, n: u64)
+        ensures { self.new ≡ counted role n self.old }
     {
-        self.book.add(&mut self.source, n);
+        match role {
+            Role::Source => self.book.add(&mut self.source, n),
+            Role::Part => self.book.add(&mut self.part, n),
+        }
     }
 }

@@ -86,9 +86,9 @@ args_fit args = list_all (λ arg. operand_fits arg.1) args
 abbrev pub op_fits : Layout → List Extent → Op → Bool
 op_fits l sizes (op.Binary o w a b) = is_width w && (operand_fits a && operand_fits b)
 op_fits l sizes (op.Compare o t a b) = is_scalar t && (operand_fits a && operand_fits b)
-op_fits l sizes (op.Cast o t a u) = is_scalar t && (is_scalar u && (goes_between o (width_of l t) (width_of l u) && operand_fits a))
+op_fits l sizes (op.Cast o t a u) = (is_scalar t && is_scalar u) && (goes_between o (width_of l t) (width_of l u) && operand_fits a)
 op_fits l sizes (op.Freeze t a) = is_scalar t && operand_fits a
-op_fits l sizes (op.Select c t a b) = is_scalar t && (operand_fits c && (operand_fits a && operand_fits b))
+op_fits l sizes (op.Select c t a b) = (is_scalar t && operand_fits c) && (operand_fits a && operand_fits b)
 op_fits l sizes (op.Alloca t count align) = type_fits l sizes t && (count_fits count && align_fits align)
 op_fits l sizes (op.Load volatile t a) = is_scalar t && operand_fits a
 op_fits l sizes (op.Store volatile t v a) = is_scalar t && (operand_fits v && operand_fits a)
