@@ -1,5 +1,5 @@
 -- An instruction that writes nothing leaves the output as it was.
-use Rattle.std.proofs.Common.{◌≡◌, ℕ, Bool, List, [], ◌++◌, refl, sym, ◌∙◌, append-nil}
+use Rattle.std.proofs.Common.{ℕ, Bool, List, [], refl, sym, append-nil}
 use Rattle.no_model.specs.State.{State}
 use Rattle.no_model.specs.Step.{Next}
 use Rattle.no_machine.specs.Acted.{Moves, Acts}

@@ -1,16 +1,14 @@
 -- One step of a machine is one step of its run.
-use Rattle.std.proofs.Common.{◌≡◌, ◌≢◌, ℕ, zero, suc, Bool, ◌+◌, ◌-◌, ◌≤◌, ◌<◌, List, [], ◌++◌, refl, sym, ap, subst, ◌∙◌, append-nil, append_assoc, add_assoc, Option, Some, None, arith}
+use Rattle.std.proofs.Common.{◌≡◌, ◌≢◌, ℕ, suc, Bool, ◌+◌, ◌-◌, ◌≤◌, List, [], ◌++◌, refl, sym, ap, subst, ◌∙◌, append-nil, Option, Some, None, arith}
 use Rattle.no_ir.specs.declared.ending.End.{End}
-use Rattle.no_ir.specs.declared.ending.End.TheVariants.{Unfinished}
 use Rattle.no_layout.specs.declared.memory.Regions.{Regions}
 use Rattle.no_model.specs.Accepted.{Accepted}
 use Rattle.no_model.specs.State.{State}
-use Rattle.no_model.specs.Step.{Next, Goes, Ends, step}
-use Rattle.no_model.specs.Run.{Ran, ended, following, goes_on, run_from}
+use Rattle.no_model.specs.Step.{Goes, Ends, step}
+use Rattle.no_model.specs.Run.{Ran, ended, following, run_from}
 use Rattle.no_model.specs.Values.{Program}
 use Rattle.no_machine.specs.Held.{program_in, state_in, IsKept}
-use Rattle.no_machine.specs.Running.{rest_from, rest_of, Does}
-use Rattle.no_machine.specs.declared.machine.Machine.{Machine}
+use Rattle.no_machine.specs.Running.{rest_from, Does}
 use Rattle.no_machine.specs.declared.state.Core.{Core}
 
 -- an instruction that goes on, within the budget
@@ -45,8 +43,11 @@ nothing_before r = ap (λ (k : ℕ). with_count r k) (sym (zero_plus r.count))
 module _ {M : Type 0} (regions : M → Regions) (byte : M → ℕ → ℕ) (held : M → ℕ → Bool) (a : Accepted) where
   kept_program : (f g : Core M) → IsKept regions held f g → program_in regions a g ≡ program_in regions a f
   kept_program f g kept = λ i. record {
-    «module» = a.«module»; layout = a.layout; sizes = a.sizes;
-    addresses = kept.same_addresses i; regions = kept.same_regions i;
+    «module» = a.«module»;
+    layout = a.layout;
+    sizes = a.sizes;
+    addresses = kept.same_addresses i;
+    regions = kept.same_regions i;
   }
 
   pub step_goes : (f g : Core M) (count budget : ℕ) (end : Option End) (bytes before after : List ℕ) → end ≡ None
@@ -57,13 +58,17 @@ module _ {M : Type 0} (regions : M → Regions) (byte : M → ℕ → ℕ) (held
       let more = one_more count budget within other in
       let same : program_in regions a f ≡ program_in regions a g = sym (kept_program f g kept) in
       let ran : run_from (program_in regions a f) (budget - count) (state_in byte f) ≡ following bytes (count + 1 - count) (run_from (program_in regions a g) (budget - (count + 1)) (state_in byte g)) =
-          run_goes (program_in regions a f) (budget - count) (budget - (count + 1)) (state_in byte f) (state_in byte g) bytes more.0 e
-          ∙ ap (λ (q : Program). following bytes 1 (run_from q (budget - (count + 1)) (state_in byte g))) same
-          ∙ ap (λ (k : ℕ). following bytes k (run_from (program_in regions a g) (budget - (count + 1)) (state_in byte g))) (sym (one_step count)) in
+      run_goes (program_in regions a f) (budget - count) (budget - (count + 1)) (state_in byte f) (state_in byte g) bytes more.0 e
+      ∙ ap (λ (q : Program). following bytes 1 (run_from q (budget - (count + 1)) (state_in byte g))) same
+      ∙ ap (λ (k : ℕ). following bytes k (run_from (program_in regions a g) (budget - (count + 1)) (state_in byte g))) (sym (one_step count)) in
       record {
-        bytes = bytes; wrote = wrote;
+        bytes = bytes;
+        wrote = wrote;
         ran = subst (λ (o : Option End). rest_from (program_in regions a f) o (budget - count) (state_in byte f) ≡ following bytes (count + 1 - count) (rest_from (program_in regions a g) o (budget - (count + 1)) (state_in byte g))) (sym open_end) ran;
-        later = omega arith; within = more.1; budget = refl }
+        later = omega arith;
+        within = more.1;
+        budget = refl;
+      }
 
   pub step_ends : (f g : Core M) (count budget : ℕ) (end : Option End) (e : End) (before after : List ℕ) → end ≡ None
       → count ≤ budget → count ≢ budget
@@ -72,20 +77,24 @@ module _ {M : Type 0} (regions : M → Regions) (byte : M → ℕ → ℕ) (held
   step_ends f g count budget end e before after open_end within other what wrote =
       let more = one_more count budget within other in
       let ran : run_from (program_in regions a f) (budget - count) (state_in byte f) ≡ following [] (count + 1 - count) (ended e) =
-          run_ends (program_in regions a f) (budget - count) (budget - (count + 1)) (state_in byte f) e more.0 what
-          ∙ ap (λ (k : ℕ). following [] k (ended e)) (sym (one_step count)) in
+      run_ends (program_in regions a f) (budget - count) (budget - (count + 1)) (state_in byte f) e more.0 what
+      ∙ ap (λ (k : ℕ). following [] k (ended e)) (sym (one_step count)) in
       record {
-        bytes = []; wrote = wrote ∙ sym (append-nil before);
+        bytes = [];
+        wrote = wrote ∙ sym (append-nil before);
         ran = subst (λ (o : Option End). rest_from (program_in regions a f) o (budget - count) (state_in byte f) ≡ following [] (count + 1 - count) (ended e)) (sym open_end) ran;
-        later = omega arith; within = more.1; budget = refl }
+        later = omega arith;
+        within = more.1;
+        budget = refl;
+      }
 
   pub step_stays : (f g : Core M) (count budget : ℕ) (end : Option End) (before after : List ℕ)
       → count ≤ budget → IsKept regions held f g → state_in byte g ≡ state_in byte f → after ≡ before
       → Does regions byte a (record { core = f; count = count; budget = budget; end = end }) (record { core = g; count = count; budget = budget; end = end }) before after
   step_stays f g count budget end before after within kept same wrote =
       let ran : rest_from (program_in regions a f) end (budget - count) (state_in byte f) ≡ following [] (count - count) (rest_from (program_in regions a g) end (budget - count) (state_in byte g)) =
-          ap (λ (q : Program). rest_from q end (budget - count) (state_in byte f)) (sym (kept_program f g kept))
-          ∙ ap (λ (s : State). rest_from (program_in regions a g) end (budget - count) s) (sym same)
-          ∙ nothing_before (rest_from (program_in regions a g) end (budget - count) (state_in byte g))
-          ∙ ap (λ (k : ℕ). following [] k (rest_from (program_in regions a g) end (budget - count) (state_in byte g))) (sym (none_between count)) in
+      ap (λ (q : Program). rest_from q end (budget - count) (state_in byte f)) (sym (kept_program f g kept))
+      ∙ ap (λ (s : State). rest_from (program_in regions a g) end (budget - count) s) (sym same)
+      ∙ nothing_before (rest_from (program_in regions a g) end (budget - count) (state_in byte g))
+      ∙ ap (λ (k : ℕ). following [] k (rest_from (program_in regions a g) end (budget - count) (state_in byte g))) (sym (none_between count)) in
       record { bytes = []; wrote = wrote ∙ sym (append-nil before); ran = ran; later = omega arith; within = within; budget = refl }

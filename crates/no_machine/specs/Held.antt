@@ -11,8 +11,11 @@ state_in byte m = record { frame = m.frame; sp = m.sp; byte = byte m.mem }
 
 abbrev pub program_in : {M : Type 0} → (M → Regions) → Accepted → Core M → Program
 program_in regions a m = record {
-  «module» = a.«module»; layout = a.layout; sizes = a.sizes;
-  addresses = m.addresses; regions = regions m.mem;
+  «module» = a.«module»;
+  layout = a.layout;
+  sizes = a.sizes;
+  addresses = m.addresses;
+  regions = regions m.mem;
 }
 
 -- what no instruction changes

@@ -1,7 +1,6 @@
 -- What an access of a number in memory did.
 use Rattle.std.specs.Prelude.{◌≡◌, ℕ, Bool, false, Option, Some, None}
 use Rattle.no_ir.specs.declared.ending.Trap.{Trap}
-use Rattle.no_layout.specs.Memory.{write_number}
 use Rattle.no_machine.specs.declared.numbers.Fetched.{Fetched}
 use Rattle.no_machine.specs.declared.numbers.Fetched.TheVariants as fetched
 use Rattle.no_machine.specs.declared.numbers.Put.{Put}

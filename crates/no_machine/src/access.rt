@@ -8,13 +8,12 @@ ghost use Rattle.no_machine.specs.Acted.{Moves};
 ghost use Rattle.no_machine.specs.Held.{IsKept, program_in, state_in};
 ghost use Rattle.no_layout.specs.Orders.{IsWidth};
 
-use no_ir::{End, Operand, Trap, Ty};
-use no_layout::{Memory, STACK_START};
-use no_model::Sound;
-
 use crate::numbers::{Fetched, Put, fetch, put_number};
 use crate::state::{Acted, Core};
 use crate::values::{narrowed, pointer_width, resized, width_at};
+use no_ir::{End, Operand, Trap, Ty};
+use no_layout::{Memory, STACK_START};
+use no_model::Sound;
 
 /// How many bytes a number of w bits takes in memory.
 #[tactic(auto, using(crate::proofs::Widths::bytes_width, crate::proofs::Widths::bytes_room))]
@@ -89,7 +88,13 @@ impl<M: Memory> Core<M> {
     }
 
     /// Where the stack pointer stands below so many values of a type.
-    fn room(&self, sound: &Sound, t: &Ty, count: &Option<(u8, Operand)>, align: Option<u32>) -> Option<u32>
+    fn room(
+        &self,
+        sound: &Sound,
+        t: &Ty,
+        count: &Option<(u8, Operand)>,
+        align: Option<u32>,
+    ) -> Option<u32>
         requires fits { type_fits sound.now.layout sound.now.sizes t.now ≡ true }
         requires count { count_fits count.now ≡ true }
         requires align { align_fits align ≡ true }
@@ -105,7 +110,14 @@ impl<M: Memory> Core<M> {
 
     /// Room on the stack.
     #[tactic(auto, unfolding(no_model::specs::Step::act_alloca))]
-    pub(crate) fn allocate(&mut self, sound: &Sound, into: Option<u32>, t: &Ty, count: &Option<(u8, Operand)>, align: Option<u32>) -> Acted
+    pub(crate) fn allocate(
+        &mut self,
+        sound: &Sound,
+        into: Option<u32>,
+        t: &Ty,
+        count: &Option<(u8, Operand)>,
+        align: Option<u32>,
+    ) -> Acted
         requires room { self.old.frame.at + 1 < 2 ^ 64 }
         requires fits { type_fits sound.now.layout sound.now.sizes t.now ≡ true }
         requires count { count_fits count.now ≡ true }
@@ -202,7 +214,14 @@ impl<M: Memory> Core<M> {
 
     /// Pointer arithmetic.
     #[tactic(auto, using(crate::proofs::Offsets::sum_known), unfolding(no_model::specs::Step::act_gep))]
-    pub(crate) fn step_into(&mut self, sound: &Sound, into: Option<u32>, t: &Ty, a: &Operand, indices: &[(u8, Operand)]) -> Acted
+    pub(crate) fn step_into(
+        &mut self,
+        sound: &Sound,
+        into: Option<u32>,
+        t: &Ty,
+        a: &Operand,
+        indices: &[(u8, Operand)],
+    ) -> Acted
         requires room { self.old.frame.at + 1 < 2 ^ 64 }
         requires fits { type_fits sound.now.layout sound.now.sizes t.now ≡ true }
         requires operand { operand_fits a.now ≡ true }

@@ -5,11 +5,10 @@ ghost use Rattle.no_model.specs.State.{instr_at};
 ghost use Rattle.no_machine.specs.Acted.{Acts, MayLackMemory, OpTakesMemory};
 ghost use Rattle.no_machine.specs.Held.{IsKept, program_in, state_in};
 
+use crate::state::{Acted, Core};
 use no_ir::{End, Instr, Op, Trap};
 use no_layout::Memory;
 use no_model::Sound;
-
-use crate::state::{Acted, Core};
 
 impl<M: Memory> Core<M> {
     /// Does one instruction.

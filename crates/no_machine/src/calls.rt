@@ -6,12 +6,11 @@ ghost use Rattle.no_model.specs.Step.{Ends, act_called, act_call, act_external, 
 ghost use Rattle.no_machine.specs.Acted.{Acts};
 ghost use Rattle.no_machine.specs.Held.{IsKept, program_in, state_in};
 
+use crate::state::{Acted, Core};
+use crate::values::width_at;
 use no_ir::{Const, End, Function, Module, Operand, Symbol, Trap, Ty};
 use no_layout::Memory;
 use no_model::Sound;
-
-use crate::state::{Acted, Core};
-use crate::values::width_at;
 
 const PUTCHAR: &[u8] = b"putchar";
 
@@ -48,7 +47,13 @@ fn writes_byte(function: &Function) -> bool
 impl<M: Memory> Core<M> {
     /// The low byte is written, and given back.
     #[tactic(auto, unfolding(no_model::specs::Step::act_putchar))]
-    fn put_character(&mut self, sound: &Sound, into: Option<u32>, a: &Operand, out: &mut Vec<u8>) -> Acted
+    fn put_character(
+        &mut self,
+        sound: &Sound,
+        into: Option<u32>,
+        a: &Operand,
+        out: &mut Vec<u8>,
+    ) -> Acted
         requires room { self.old.frame.at + 1 < 2 ^ 64 }
         requires operand { operand_fits a.now ≡ true }
         ensures acts { Acts (act_putchar (program_in M.regions sound.now self.old) into a.now (state_in M.byte self.old)) (M.held self.old.mem) result (state_in M.byte self.old) (state_in M.byte self.new) out.old.items out.new.items }
@@ -63,7 +68,14 @@ impl<M: Memory> Core<M> {
     }
 
     /// A call of an external function.
-    fn external(&mut self, sound: &Sound, function: &Function, into: Option<u32>, args: &[(Ty, Operand)], out: &mut Vec<u8>) -> Acted
+    fn external(
+        &mut self,
+        sound: &Sound,
+        function: &Function,
+        into: Option<u32>,
+        args: &[(Ty, Operand)],
+        out: &mut Vec<u8>,
+    ) -> Acted
         requires room { self.old.frame.at + 1 < 2 ^ 64 }
         requires args { args_fit args.now ≡ true }
         ensures acts { Acts (act_external (program_in M.regions sound.now self.old) function.now into args.now (state_in M.byte self.old)) (M.held self.old.mem) result (state_in M.byte self.old) (state_in M.byte self.new) out.old.items out.new.items }
@@ -77,7 +89,14 @@ impl<M: Memory> Core<M> {
 
     /// A call.
     #[tactic(auto, unfolding(no_model::specs::Step::act_call))]
-    pub(crate) fn call(&mut self, sound: &Sound, into: Option<u32>, callee: &Operand, args: &[(Ty, Operand)], out: &mut Vec<u8>) -> Acted
+    pub(crate) fn call(
+        &mut self,
+        sound: &Sound,
+        into: Option<u32>,
+        callee: &Operand,
+        args: &[(Ty, Operand)],
+        out: &mut Vec<u8>,
+    ) -> Acted
         requires room { self.old.frame.at + 1 < 2 ^ 64 }
         requires args { args_fit args.now ≡ true }
         ensures acts { Acts (act_call (program_in M.regions sound.now self.old) into callee.now args.now (state_in M.byte self.old)) (M.held self.old.mem) result (state_in M.byte self.old) (state_in M.byte self.new) out.old.items out.new.items }

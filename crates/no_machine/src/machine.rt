@@ -3,15 +3,13 @@ ghost use Rattle.no_model.specs.State.{main_number, start_frame};
 ghost use Rattle.no_machine.specs.Counted.{counted};
 ghost use Rattle.no_machine.specs.Running.{Does, IsBooted, TakesStep, budget_of, count_of, end_of, memory_of, state_of};
 
-use std::alloc::Global;
-use std::sync::ledger::Ledger;
-
+use crate::Steps;
+use crate::state::{Acted, Core};
 use no_ir::{End, List, Module, NoMemory};
 use no_layout::{Memory, STACK_END};
 use no_model::{Frame, Sound};
-
-use crate::Steps;
-use crate::state::{Acted, Core};
+use std::alloc::Global;
+use std::sync::ledger::Ledger;
 
 const MAIN: &[u8] = b"main";
 
@@ -84,7 +82,13 @@ impl<M: Memory> Machine<M> {
     /// At the entry of `main`, with nothing counted and 0 in each register.
     ///
     /// The addresses are those of the module's globals, and the memory holds its first bytes.
-    pub fn boot(alloc: Global, sound: &Sound, addresses: List<u32>, mem: M, budget: u64) -> Result<Machine<M>, NoMemory>
+    pub fn boot(
+        alloc: Global,
+        sound: &Sound,
+        addresses: List<u32>,
+        mem: M,
+        budget: u64,
+    ) -> Result<Machine<M>, NoMemory>
         ensures { IfOk result (λ r. IsBooted M.byte sound.now addresses mem budget r) }
     {
         Ok(Machine {
@@ -103,7 +107,12 @@ impl<M: Memory> Machine<M> {
     /// Does one instruction, and counts it, or says why not.
     ///
     /// The output grows by what the instruction writes. The module is the one that the machine was made with.
-    pub fn step<L: Ledger>(&mut self, sound: &Sound, out: &mut Vec<u8>, steps: &mut Steps<L>) -> StepAnswer
+    pub fn step<L: Ledger>(
+        &mut self,
+        sound: &Sound,
+        out: &mut Vec<u8>,
+        steps: &mut Steps<L>,
+    ) -> StepAnswer
         requires within { count_of self.old ≤ budget_of self.old }
         // What is left of the run is what this step wrote and counted, and then what is left after it.
         ensures does { Does M.regions M.byte sound.now self.old self.new out.old.items out.new.items }

@@ -5,18 +5,25 @@ ghost use Rattle.no_model.specs.Values.{width_of};
 ghost use Rattle.no_machine.specs.Acted.{Moves};
 ghost use Rattle.no_machine.specs.Held.{IsKept, program_in, state_in};
 
+use crate::state::{Acted, Core};
+use crate::values::width_at;
 use no_eval::{binary, cast, compare};
 use no_ir::{BinOp, CastOp, End, Operand, Pred, Ty};
 use no_layout::Memory;
 use no_model::Sound;
 
-use crate::state::{Acted, Core};
-use crate::values::width_at;
-
 impl<M: Memory> Core<M> {
     /// A binary operator.
     #[tactic(auto, unfolding(no_model::specs::Step::act_binary))]
-    pub(crate) fn binary(&mut self, sound: &Sound, into: Option<u32>, o: BinOp, w: u8, a: &Operand, b: &Operand) -> Acted
+    pub(crate) fn binary(
+        &mut self,
+        sound: &Sound,
+        into: Option<u32>,
+        o: BinOp,
+        w: u8,
+        a: &Operand,
+        b: &Operand,
+    ) -> Acted
         requires room { self.old.frame.at + 1 < 2 ^ 64 }
         requires some { 0 < w }
         requires most { w ≤ 64 }
@@ -39,7 +46,15 @@ impl<M: Memory> Core<M> {
 
     /// A comparison.
     #[tactic(auto, unfolding(no_model::specs::Step::act_compare))]
-    pub(crate) fn compare(&mut self, sound: &Sound, into: Option<u32>, o: Pred, t: &Ty, a: &Operand, b: &Operand) -> Acted
+    pub(crate) fn compare(
+        &mut self,
+        sound: &Sound,
+        into: Option<u32>,
+        o: Pred,
+        t: &Ty,
+        a: &Operand,
+        b: &Operand,
+    ) -> Acted
         requires room { self.old.frame.at + 1 < 2 ^ 64 }
         requires scalar { is_scalar t.now ≡ true }
         requires left { operand_fits a.now ≡ true }
@@ -57,7 +72,15 @@ impl<M: Memory> Core<M> {
 
     /// A conversion.
     #[tactic(auto, unfolding(no_model::specs::Step::act_cast))]
-    pub(crate) fn convert(&mut self, sound: &Sound, into: Option<u32>, o: CastOp, t: &Ty, a: &Operand, u: &Ty) -> Acted
+    pub(crate) fn convert(
+        &mut self,
+        sound: &Sound,
+        into: Option<u32>,
+        o: CastOp,
+        t: &Ty,
+        a: &Operand,
+        u: &Ty,
+    ) -> Acted
         requires room { self.old.frame.at + 1 < 2 ^ 64 }
         requires from { is_scalar t.now ≡ true }
         requires to { is_scalar u.now ≡ true }
@@ -91,7 +114,15 @@ impl<M: Memory> Core<M> {
 
     /// One of two operands.
     #[tactic(auto, unfolding(no_model::specs::Step::act_select))]
-    pub(crate) fn select(&mut self, sound: &Sound, into: Option<u32>, c: &Operand, t: &Ty, a: &Operand, b: &Operand) -> Acted
+    pub(crate) fn select(
+        &mut self,
+        sound: &Sound,
+        into: Option<u32>,
+        c: &Operand,
+        t: &Ty,
+        a: &Operand,
+        b: &Operand,
+    ) -> Acted
         requires room { self.old.frame.at + 1 < 2 ^ 64 }
         requires scalar { is_scalar t.now ≡ true }
         requires condition { operand_fits c.now ≡ true }
@@ -102,7 +133,11 @@ impl<M: Memory> Core<M> {
         ensures enough { result ≢ Acted.NoMemory }
     {
         let w = width_at(sound, t);
-        let n = if self.value(sound, 1, c) == 1 { self.value(sound, w, a) } else { self.value(sound, w, b) };
+        let n = if self.value(sound, 1, c) == 1 {
+            self.value(sound, w, a)
+        } else {
+            self.value(sound, w, b)
+        };
         self.assign(into, n);
         Acted::Went
     }

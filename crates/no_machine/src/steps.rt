@@ -1,11 +1,9 @@
 ghost use Rattle.std.specs.Prelude.{◌≡◌};
 ghost use Rattle.no_machine.specs.Counted.{counted};
 
+use no_ir::Role;
 use std::marker::Model;
 use std::sync::ledger::{Blank, Book, Ledger, Share};
-
-use no_ir::Role;
-
 
 /// How many instructions were counted: those of source modules and those of servers' parts.
 /// Only a machine's step raises it.

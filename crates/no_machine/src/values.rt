@@ -3,12 +3,11 @@ ghost use Rattle.no_model.specs.Sound.{constant_fits, is_bare, is_scalar, is_wid
 ghost use Rattle.no_model.specs.Values.{constant, extended, operand_number, place_address, symbol_address, value, width_of};
 ghost use Rattle.no_machine.specs.Held.{program_in};
 
+use crate::state::Core;
 use no_eval::cast;
 use no_ir::{CastOp, Const, Operand, Place, Symbol, Ty};
 use no_layout::Memory;
 use no_model::{Sound, width};
-
-use crate::state::Core;
 
 const FUNCTIONS: u64 = 0xF000_0000;
 

@@ -1,5 +1,5 @@
 -- What an accepted module gives the machine.
-use Rattle.std.proofs.Common.{◌≡◌, ℕ, ◌<◌, ◌≤◌, ◌⊎◌, inl, inr, Bool, true, false, ◌&&◌, ◌||◌, ◌==◌, IsTrue, List, [], ◌∷◌, slice_get, get_or, length, Option, Some, None, refl, sym, ◌∙◌, ap, arith, rules}
+use Rattle.std.proofs.Common.{◌≡◌, ℕ, inl, inr, Bool, true, false, ◌&&◌, IsTrue, List, slice_get, get_or, Option, Some, None, refl, ◌∙◌, ap}
 use Rattle.std.specs.Option.{IfSome}
 use Rattle.std.specs.List.{list_all}
 use Rattle.std.proofs.lemmas.Bool.{cases_Bool}
@@ -25,11 +25,12 @@ true_is b e = e
 
 each_at : {A : Type 0} (p : A → Bool) (xs : List A) (k : ℕ) (x : A) → list_all p xs ≡ true → slice_get xs k ≡ Some x → p x ≡ true
 each_at p xs k x all is = elim (cases_Bool (p x)) [
-    inl holds ↦ holds
+  | inl holds ↦ holds
   | inr fails ↦
       let at : get_or xs k x ≡ x = get_or_from_slice_get xs k x x is in
       let some : list_all p xs ≡ false = list_all_at p xs k x (slice_get_within xs k x is) (ap p at ∙ fails) in
-      absurd cc ]
+      absurd cc
+]
 
 pub layout_formed : (m : Module) (l : Layout) (sizes : List Extent) → is_sound m l sizes ≡ true → IsTrue (is_formed l)
 unfolding is_sound

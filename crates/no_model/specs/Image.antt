@@ -1,9 +1,8 @@
 -- The first memory of a program: where its constants and globals stand, and where they end (docs/FORMATS.md, "Memory map").
-use Rattle.std.specs.Prelude.{ℕ, ◌+◌, Bool, true, false, ◌==◌, if◌then◌else◌, List, [], ◌∷◌, ◌++◌, Option, Some, None}
+use Rattle.std.specs.Prelude.{ℕ, ◌+◌, Bool, true, false, if◌then◌else◌, List, [], ◌∷◌, ◌++◌, Option, Some, None}
 use Rattle.std.specs.List.{fold}
 use Rattle.std.specs.Int.{next_multiple_of}
 use Rattle.no_ir.specs.declared.function.GlobalVar.{GlobalVar}
-use Rattle.no_ir.specs.declared.function.Module.{Module}
 use Rattle.no_layout.specs.Memory.{constants_start}
 use Rattle.no_layout.specs.Sizes.{type_size, type_align}
 use Rattle.no_layout.specs.declared.extent.Extent.{Extent}

@@ -5,4 +5,5 @@ pub mod Sound
 pub mod Values
 pub mod State
 pub mod Step
+pub mod First
 pub mod Run

@@ -2,7 +2,9 @@
 use Rattle.std.specs.Prelude.{ℕ, zero, suc, ◌+◌, List, [], ◌++◌}
 use Rattle.no_ir.specs.declared.ending.End.{End}
 use Rattle.no_ir.specs.declared.ending.End.TheVariants.{Unfinished}
-use Rattle.no_model.specs.State.{State}
+use Rattle.no_model.specs.Accepted.{Accepted}
+use Rattle.no_model.specs.First.{program_of, first_byte}
+use Rattle.no_model.specs.State.{State, start}
 use Rattle.no_model.specs.Step.{Next, Goes, Ends, step}
 use Rattle.no_model.specs.Values.{Program}
 
@@ -29,3 +31,7 @@ goes_on (Ends e) rest = following [] 1 (ended e)
 abbrev pub run_from : Program → ℕ → State → Ran
 run_from p zero s = ended Unfinished
 run_from p (suc n) s = goes_on (step p s) (λ t. run_from p n t)
+
+-- the run of an accepted program on an input within a budget, from the entry of main and the first bytes; no instruction reads the input yet
+unfoldable pub run : Accepted → List ℕ → ℕ → Ran
+run a input budget = run_from (program_of a) budget (start a.«module» (first_byte a))

@@ -1,5 +1,5 @@
 -- States of a run.
-use Rattle.std.specs.Prelude.{ℕ, ◌+◌, ◌-◌, Bool, true, false, List, [], ◌∷◌, length, replicate, slice_get, slice_set, Option, Some, None, bytes_eq, codes, if◌then◌else◌}
+use Rattle.std.specs.Prelude.{ℕ, ◌+◌, ◌-◌, List, [], ◌∷◌, length, replicate, slice_get, slice_set, Option, Some, None, bytes_eq, codes, if◌then◌else◌}
 use Rattle.no_ir.specs.declared.constant.Const.{Const}
 use Rattle.no_ir.specs.declared.constant.Const.TheVariants as const
 use Rattle.no_ir.specs.declared.constant.Symbol.{Symbol}
@@ -76,8 +76,12 @@ call_room = 16
 -- the entry of main, as by a call, with a zero in each register
 abbrev pub start_frame : Module → Frame
 start_frame m = record {
-    function = main_number m; block = 0; at = 0; caller_sp = stack_end;
-    registers = replicate (register_count (slice_get m.functions (main_number m))) 0 }
+  function = main_number m;
+  block = 0;
+  at = 0;
+  caller_sp = stack_end;
+  registers = replicate (register_count (slice_get m.functions (main_number m))) 0;
+}
 
 abbrev pub start : Module → (ℕ → ℕ) → State
 start m byte = record { frame = start_frame m; sp = stack_end - call_room; byte = byte }

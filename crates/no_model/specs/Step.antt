@@ -12,7 +12,6 @@ use Rattle.no_ir.specs.declared.instruction.Operand.{Operand}
 use Rattle.no_ir.specs.declared.instruction.Op.{Op}
 use Rattle.no_ir.specs.declared.instruction.Op.TheVariants as op
 use Rattle.no_ir.specs.declared.instruction.Instr.{Instr}
-use Rattle.no_ir.specs.declared.function.Block.{Block}
 use Rattle.no_ir.specs.declared.function.Function.{Function}
 use Rattle.no_eval.specs.Binary.{binary_of}
 use Rattle.no_eval.specs.Compare.{compare_of}
@@ -118,7 +117,7 @@ stored None p w at n s = Goes [] (assigned None 0 (record s { byte = write_numbe
 unfoldable pub act_store : Program → Ty → Operand → Operand → State → Next
 act_store p t v a s =
     stored (refusal p.regions true (value_in p p.layout.pointer s a) (bytes_of_width (width_of p.layout t))) p (width_of p.layout t)
-      (value_in p p.layout.pointer s a) (value_in p (width_of p.layout t) s v) s
+    (value_in p p.layout.pointer s a) (value_in p (width_of p.layout t) s v) s
 
 -- an address and the offsets of the indices, modulo 2 ^ P ("getelementptr Instruction")
 unfoldable pub act_gep : Program → Option ℕ → Ty → Operand → List (ℕ × Operand) → State → Next

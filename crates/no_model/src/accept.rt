@@ -53,13 +53,17 @@ fn checks_op(op: &Op, layout: &Layout, sizes: &Sizes) -> bool
     match op {
         Op::Binary(_, w, a, b) => has_width(*w) && (checks_operand(a) && checks_operand(b)),
         Op::Compare(_, t, a, b) => is_plain(t) && (checks_operand(a) && checks_operand(b)),
-        Op::Cast(o, t, a, u) => (is_plain(t) && is_plain(u)) && (goes(*o, width(layout, t), width(layout, u)) && checks_operand(a)),
+        Op::Cast(o, t, a, u) => (is_plain(t) && is_plain(u))
+            && (goes(*o, width(layout, t), width(layout, u)) && checks_operand(a)),
         Op::Freeze(t, a) => is_plain(t) && checks_operand(a),
-        Op::Select(c, t, a, b) => (is_plain(t) && checks_operand(c)) && (checks_operand(a) && checks_operand(b)),
-        Op::Alloca(t, count, align) => checks_type(layout, sizes, t) && (checks_count(count) && checks_align(*align)),
+        Op::Select(c, t, a, b) => (is_plain(t) && checks_operand(c))
+            && (checks_operand(a) && checks_operand(b)),
+        Op::Alloca(t, count, align) => checks_type(layout, sizes, t)
+            && (checks_count(count) && checks_align(*align)),
         Op::Load(_, t, a) => is_plain(t) && checks_operand(a),
         Op::Store(_, t, v, a) => is_plain(t) && (checks_operand(v) && checks_operand(a)),
-        Op::Gep(t, a, indices) => checks_type(layout, sizes, t) && (checks_operand(a) && checks_indices(indices.as_slice())),
+        Op::Gep(t, a, indices) => checks_type(layout, sizes, t)
+            && (checks_operand(a) && checks_indices(indices.as_slice())),
         Op::Call(_, _, args) => checks_args(args.as_slice()),
         Op::Ret(Some((t, a))) => is_plain(t) && checks_operand(a),
         _ => false,

@@ -4,12 +4,10 @@ ghost use Rattle.no_layout.specs.Text.{is_formed};
 ghost use Rattle.no_model.specs.Sound.{is_sound, op_fits};
 ghost use Rattle.no_model.specs.State.{instr_at};
 
-use std::marker::Model;
-
+use crate::Frame;
 use no_ir::{Instr, Module, Role};
 use no_layout::{Layout, Sizes};
-
-use crate::Frame;
+use std::marker::Model;
 
 /// A module that was accepted, with its data layout, the sizes of its named types, and its role.
 #[derive(Drop)]

@@ -1,4 +1,4 @@
-use Rattle.std.proofs.Common.{◌≡◌, false}
+use Rattle.std.proofs.Common.{false}
 use Rattle.no_machine.proofs.Accesses.{missing_absent}
 use Rattle.no_machine.proofs.numbers.fetch.Goals as goal
 

@@ -1,4 +1,4 @@
-use Rattle.std.proofs.Common.{◌≡◌, true}
+use Rattle.std.proofs.Common.{true}
 use Rattle.no_machine.proofs.Accesses.{missing_absent}
 use Rattle.no_machine.proofs.numbers.put_number.Goals as goal
 

@@ -1,4 +1,4 @@
-use Rattle.std.proofs.Common.{◌≡◌, Bool, true, ◌&&◌, subst}
+use Rattle.std.proofs.Common.{◌≡◌, true, ◌&&◌, subst}
 use Rattle.no_ir.specs.declared.instruction.Op.{Op}
 use Rattle.no_model.proofs.Facts.{both}
 use Rattle.no_model.specs.Sound.{op_fits, is_scalar, operand_fits}
