@@ -1,10 +1,11 @@
 -- The first bytes of a program's constants and globals (LLVM Language Reference, "Constants", "Data Layout").
-use Rattle.std.specs.Prelude.{ℕ, ◌+◌, ◌-◌, ◌%◌, ◌^◌, List, [], ◌∷◌, ◌++◌, length, map, replicate, slice_get, Option, Some, None}
+use Rattle.std.specs.Prelude.{ℕ, Bool, true, false, ◌+◌, ◌-◌, ◌%◌, ◌^◌, List, [], ◌∷◌, ◌++◌, length, map, replicate, slice_get, if◌then◌else◌, Option, Some, None}
 use Rattle.std.specs.List.{concat}
 use Rattle.no_ir.specs.declared.types.Ty.{Ty, out-Ty}
 use Rattle.no_ir.specs.declared.types.Ty.TheOpen.{Ty-F}
 use Rattle.no_ir.specs.declared.types.Ty.TheVariants as ty
 use Rattle.no_ir.specs.declared.constant.Const.{Const}
+use Rattle.no_ir.specs.declared.constant.Const.TheVariants as const
 use Rattle.no_ir.specs.declared.constant.Const.TheOpen.{Const-F}
 use Rattle.no_ir.specs.declared.constant.Const.TheFolds.{fold-Const}
 use Rattle.no_ir.specs.declared.function.GlobalVar.{GlobalVar}
@@ -73,12 +74,34 @@ bytes_step p (Const-F.IntAsPtr n) t = number_bytes p t n
 abbrev pub constant_bytes : Program → Const → Ty → List ℕ
 constant_bytes p = fold-Const (Ty → List ℕ) (bytes_step p)
 
--- the bytes of each global at its address; all others are 0
-abbrev pub first_of : Program → List ℕ → List GlobalVar → ℕ → ℕ
-first_of p (at ∷ others) (g ∷ more) = written (first_of p others more) at (constant_bytes p g.init g.ty)
-first_of p [] globals = λ a. 0
-first_of p (at ∷ others) [] = λ a. 0
+-- ---- a whole memory
 
--- the first byte at each address
+-- `null`, `zeroinitializer` and the like
+abbrev pub is_zero : Const → Bool
+is_zero const.Zero = true
+is_zero _ = false
+
+-- the bytes of a global at its address; a global that begins as zeros needs none
+abbrev pub piece_of : Program → ℕ → GlobalVar → List (ℕ × List ℕ)
+piece_of p at g = if is_zero g.init then [] else (at, constant_bytes p g.init g.ty) ∷ []
+
+abbrev pub pieces_from : Program → List ℕ → List GlobalVar → List (ℕ × List ℕ)
+pieces_from p (at ∷ others) (g ∷ more) = piece_of p at g ++ pieces_from p others more
+pieces_from p [] globals = []
+pieces_from p (at ∷ others) [] = []
+
+-- addresses with the bytes that stand from there on at first
+abbrev pub pieces_of : Accepted → List (ℕ × List ℕ)
+pieces_of a = pieces_from (program_of a) (program_of a).addresses a.«module».globals
+
+abbrev pub with_piece : (ℕ → ℕ) → ℕ × List ℕ → ℕ → ℕ
+with_piece byte piece = written byte piece.0 piece.1
+
+-- a memory with pieces in their places
+abbrev pub filled : (ℕ → ℕ) → List (ℕ × List ℕ) → ℕ → ℕ
+filled byte [] = byte
+filled byte (piece ∷ others) = filled (with_piece byte piece) others
+
+-- the first byte at each address: memory that no piece has holds 0
 abbrev pub first_byte : Accepted → ℕ → ℕ
-first_byte a = first_of (program_of a) (program_of a).addresses a.«module».globals
+first_byte a = filled (λ at. 0) (pieces_of a)
