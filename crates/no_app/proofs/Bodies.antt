@@ -18,8 +18,8 @@ pub body_more : (declared : Bool) (names names' : List (List ℕ)) (instrs instr
     → whole ≡ before_body instrs' (body_of declared names' lines)
 body_more declared names names' instrs instrs' line lines a whole e plain_line is added =
     e ∙ ap (before_body instrs) unfolded
-      ∙ before_twice instrs (plain (Some (length names)) a.1 ∷ []) (body_of declared (names ++ a.0 ∷ []) lines)
-      ∙ rw (added.name, added.instr) refl
+    ∙ before_twice instrs (plain (Some (length names)) a.1 ∷ []) (body_of declared (names ++ a.0 ∷ []) lines)
+    ∙ rw (added.name, added.instr) refl
   where
     unfolded : body_of declared names (line ∷ lines) ≡ before_body (plain (Some (length names)) a.1 ∷ []) (body_of declared (names ++ a.0 ∷ []) lines)
     unfolded = rw plain_line (rw is refl)

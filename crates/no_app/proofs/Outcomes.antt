@@ -42,14 +42,16 @@ job_ran job.NoMemory f ran is counts fault = tt
 pub text_cut : (text bytes : List ℕ) → text ≡ take 16777217 bytes → module_of bytes ≡ module_of text
 unfolding module_of
 text_cut text bytes e = elim (cases_Bool (nat_le (length bytes) 16777216)) [
-    inl fits ↦ ap module_of (sym (e ∙ take_all 16777217 bytes (short fits)))
-  | inr larger ↦ rw (larger, long larger) refl ]
+  | inl fits ↦ ap module_of (sym (e ∙ take_all 16777217 bytes (short fits)))
+  | inr larger ↦ rw (larger, long larger) refl
+]
   where
     short : nat_le (length bytes) 16777216 ≡ true → length bytes ≤ 16777217
     short fits = let le = leb-true (length bytes) 16777216 fits in omega (arith, le)
+
     long : nat_le (length bytes) 16777216 ≡ false → nat_le (length text) 16777216 ≡ false
     long larger = lt-leb (length text) 16777216
-      (let more = leb-false (length bytes) 16777216 larger in rw (e, length-take-le 16777217 bytes (omega (arith, more))) (lit< tt))
+        (let more = leb-false (length bytes) 16777216 larger in rw (e, length-take-le 16777217 bytes (omega (arith, more))) (lit< tt))
 
 -- ---- where a file tells what it holds, and the text is its first bytes
 
@@ -99,13 +101,13 @@ pub says_text : (o : Outcome) (a : Around) (asked : Asked) (text : List ℕ) →
     → RunsText o a.flow (input_of a.input) asked.steps (module_of text) → Says o a
 says_text (outcome.Exited c) a asked text job holds r =
     rw job (told_module (λ found. OnModule found (λ m. RanWhole (outcome.Exited c) a.flow (run m (input_of a.input) asked.steps))) (a.contents asked.file) text holds
-      (ran_exited c a.flow (input_of a.input) asked.steps (module_of text) r))
+    (ran_exited c a.flow (input_of a.input) asked.steps (module_of text) r))
 says_text (outcome.Trapped t) a asked text job holds r =
     rw job (told_module (λ found. OnModule found (λ m. RanWhole (outcome.Trapped t) a.flow (run m (input_of a.input) asked.steps))) (a.contents asked.file) text holds
-      (ran_trapped t a.flow (input_of a.input) asked.steps (module_of text) r))
+    (ran_trapped t a.flow (input_of a.input) asked.steps (module_of text) r))
 says_text outcome.Unfinished a asked text job holds r =
     rw job (told_module (λ found. OnModule found (λ m. RanWhole outcome.Unfinished a.flow (run m (input_of a.input) asked.steps))) (a.contents asked.file) text holds
-      (ran_unfinished a.flow (input_of a.input) asked.steps (module_of text) r))
+    (ran_unfinished a.flow (input_of a.input) asked.steps (module_of text) r))
 says_text outcome.NoMemory a asked text job holds r = tt
 says_text outcome.Usage a asked text job holds r = absurd (never_usage a.flow (input_of a.input) asked.steps (module_of text) r)
 says_text (outcome.FileFault name) a asked text job holds r = absurd (never_file name a.flow (input_of a.input) asked.steps (module_of text) r)

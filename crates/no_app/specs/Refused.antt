@@ -33,5 +33,8 @@ Adds (Err refusal.NoMemory) names names' instrs instrs' read = Unit {0}
 -- the module of this function main, and of the output function where it is declared
 abbrev pub module_of_main : Bool → Function → Module
 module_of_main declared main = record {
-    layout = layout_text; types = []; globals = [];
-    functions = (if declared then putchar_function ∷ main ∷ [] else main ∷ []) }
+  layout = layout_text;
+  types = [];
+  globals = [];
+  functions = (if declared then putchar_function ∷ main ∷ [] else main ∷ []);
+}

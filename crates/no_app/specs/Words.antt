@@ -48,15 +48,15 @@ abbrev pub hear_option : List ℕ → Option (List ℕ) → Option ℕ → Optio
 hear_option word file steps =
     if bytes_eq word (codes "--steps") then Some (record { waiting = true; file = file; steps = steps })
     else (if begins (codes "--steps=") word
-      then with_budget (drop 8 word) steps >>= (λ n. Some (record { waiting = false; file = file; steps = Some n }))
-      else None)
+    then with_budget (drop 8 word) steps >>= (λ n. Some (record { waiting = false; file = file; steps = Some n }))
+    else None)
 
 -- a word that begins with `--` is an option, and another that begins with `-` is refused
 abbrev pub hear_word : List ℕ → Option (List ℕ) → Option ℕ → Option Heard
 hear_word word file steps =
     if begins (codes "--") word then hear_option word file steps
     else (if begins (codes "-") word then None
-      else with_file word file >>= (λ name. Some (record { waiting = false; file = Some name; steps = steps })))
+    else with_file word file >>= (λ name. Some (record { waiting = false; file = Some name; steps = steps })))
 
 abbrev pub hear : Bool → List ℕ → Option (List ℕ) → Option ℕ → Option Heard
 hear true word file steps = hear_value word file steps

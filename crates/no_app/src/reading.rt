@@ -5,16 +5,20 @@ ghost use Rattle.std.specs.Char.{is_ascii_alphanumeric};
 ghost use Rattle.no_app.specs.Refused.{Reads, Finds, Adds, module_of_main};
 ghost use Rattle.no_app.specs.declared.reading.Refusal.TheVariants.{NoMemory};
 
+use no_ir::{
+    BinOp, Block, Bytes, Const, Function, Instr, List, Module, Op, Operand, Place, Symbol, Ty,
+};
 use std::alloc::{AllocError, AllocFailed, Global};
-
-use no_ir::{BinOp, Block, Bytes, Const, Function, Instr, List, Module, Op, Operand, Place, Symbol, Ty};
 
 /// The greatest length of a module's file, in bytes.
 pub(crate) const TEXT_LIMIT: u32 = 16_777_216;
 
 const LAYOUT: &[u8] = b"target datalayout = \"E-p:32:32-i64:64\"";
+
 const DECLARATION: &[u8] = b"declare i32 @putchar(i32)";
+
 const DEFINITION: &[u8] = b"define i32 @main() {";
+
 const CLOSE: &[u8] = b"}";
 
 /// Why a text is not read.
@@ -202,7 +206,12 @@ fn output(alloc: Global, names: &[Bytes], rest: &[u8]) -> Result<Op, Refusal>
 }
 
 /// What a register is assigned.
-fn assigned_value(alloc: Global, declared: bool, names: &[Bytes], rest: &[u8]) -> Result<Op, Refusal>
+fn assigned_value(
+    alloc: Global,
+    declared: bool,
+    names: &[Bytes],
+    rest: &[u8],
+) -> Result<Op, Refusal>
     requires { length names.now < 2 ^ 32 }
     ensures { Reads (λ o. o) result (value_of declared names.now rest.now) }
 {
@@ -249,7 +258,11 @@ fn ending(names: &[Bytes], value: &[u8], more: &[u8]) -> Option<Operand>
     requires { length names.now < 2 ^ 32 }
     ensures { result ≡ ending_of names.now value.now (lines_of more.now) }
 {
-    if is_closed(more) { operand(names, value) } else { None }
+    if is_closed(more) {
+        operand(names, value)
+    } else {
+        None
+    }
 }
 
 /// Adds an instruction that a line assigns, and its register's name.
@@ -319,7 +332,11 @@ fn declared_putchar(alloc: Global) -> Result<Function, Refusal>
 }
 
 /// The function `main` with this body.
-fn defined_main(alloc: Global, registers: List<Bytes>, instrs: List<Instr>) -> Result<Function, Refusal>
+fn defined_main(
+    alloc: Global,
+    registers: List<Bytes>,
+    instrs: List<Instr>,
+) -> Result<Function, Refusal>
     ensures { Reads (λ f. f) result (Some (main_function (registers, instrs))) }
 {
     let mut labels = List::new(alloc);
