@@ -343,14 +343,14 @@ const PROGRAMS: [Case; 30] = [
 #[test]
 fn programs(rt: HostRuntime) -> Result<(), Fail> {
     let alloc = rt.alloc();
-    for (body, budget, output, ending, wanted) in PROGRAMS {
+    for (body, budget, output, ending, wanted) in &PROGRAMS {
         let text = format!(in alloc; "{LAYOUT}{body}")?;
         let line = format!(in alloc; "local|m.ll|--steps|{budget}")?;
         let last = format!(in alloc; "nativeoff: {ending}\n")?;
         let mut world = make_world(alloc, text.as_str(), &NEVER)?;
         let words = words(alloc, line.as_str())?;
         let status = called::<Brand>(alloc, &words, &mut world, Blank::new(2));
-        assert_eq!(rt; status, wanted, "at {body}");
+        assert_eq!(rt; status, *wanted, "at {body}");
         assert_eq!(rt; world.out.held(), output.as_bytes(), "at {body}");
         assert_eq!(rt; world.err.held(), last.as_bytes(), "at {body}");
     }

@@ -1,5 +1,5 @@
 -- The text of a program of one block: what each line may be, and the module that the lines mean.
-use Rattle.std.specs.Prelude.{◌≡◌, ℕ, ◌+◌, ◌-◌, ◌*◌, ◌%◌, ◌^◌, Bool, true, false, ◌&&◌, ◌==◌, nat_le, if◌then◌else◌, List, [], ◌∷◌, ◌++◌, length, take, drop, filter, Option, Some, None, is_none, option_map, codes, bytes_eq}
+use Rattle.std.specs.Prelude.{◌≡◌, ℕ, ◌+◌, ◌-◌, ◌*◌, ◌%◌, ◌^◌, Bool, true, false, ◌&&◌, ◌==◌, nat_le, if◌then◌else◌, List, [], ◌∷◌, ◌++◌, length, take, drop, filter, Option, Some, None, is_none, option_map, codes, position, bytes_eq}
 use Rattle.std.specs.List.{list_all}
 use Rattle.std.specs.Char.{is_ascii_digit, is_ascii_alphabetic, is_ascii_alphanumeric}
 use Rattle.no_ir.specs.declared.types.Ty.{Ty}
@@ -82,14 +82,9 @@ integer_of (c ∷ cs) = if c == 45 then option_map negated (number_of 2147483648
 
 -- ---- operands and instructions
 
--- the place of a name among others, after n of them
-abbrev pub place_from : ℕ → List (List ℕ) → List ℕ → Option ℕ
-place_from n [] name = None
-place_from n (other ∷ more) name = if bytes_eq other name then Some n else place_from (n + 1) more name
-
--- a register that an earlier line assigns
-abbrev pub register_of : List (List ℕ) → List ℕ → Option ℕ
-register_of names name = place_from 0 names name
+-- the place of a register that an earlier line assigns
+unfoldable pub register_of : List (List ℕ) → List ℕ → Option ℕ
+register_of names name = position (bytes_eq name) names
 
 -- a register or an integer; a percent sign is 37
 abbrev pub operand_of : List (List ℕ) → List ℕ → Option Operand
@@ -134,8 +129,9 @@ call_or_none _ names _ = None
 abbrev pub value_of : Bool → List (List ℕ) → List ℕ → Option Op
 value_of declared names rest =
     elim (strip (codes "= add i32 ") rest) [
-        Some more ↦ add_of names more
-      | None ↦ call_or_none declared names (strip (codes "= call i32 @putchar(i32 ") rest) ]
+      | Some more ↦ add_of names more
+      | None ↦ call_or_none declared names (strip (codes "= call i32 @putchar(i32 ") rest)
+    ]
 
 -- a line that assigns: a name that is new, and what is assigned; a space is 32
 abbrev pub assignment_of : Bool → List (List ℕ) → List ℕ → Option (List ℕ × Op)
@@ -143,8 +139,8 @@ assignment_of declared names line = do
   rest ← strip (codes "  %") line
   parts ← cut 32 rest
   if is_name parts.0 && is_none (register_of names parts.0)
-    then value_of declared names parts.1 >>= (λ what. Some (parts.0, what))
-    else None
+      then value_of declared names parts.1 >>= (λ what. Some (parts.0, what))
+      else None
 
 -- ---- the whole
 
@@ -175,28 +171,46 @@ abbrev pub body_of : Bool → List (List ℕ) → List (List ℕ) → Option Bod
 body_of declared names [] = None
 body_of declared names (line ∷ more) =
     elim (strip (codes "  ret i32 ") line) [
-        Some rest ↦ option_map (ended_body names) (ending_of names rest more)
+      | Some rest ↦ option_map (ended_body names) (ending_of names rest more)
       | None ↦ assignment_of declared names line >>= (λ a.
-          before_body (plain (Some (length names)) a.1 ∷ []) (body_of declared (names ++ a.0 ∷ []) more)) ]
+          before_body (plain (Some (length names)) a.1 ∷ []) (body_of declared (names ++ a.0 ∷ []) more))
+    ]
 
 -- the declared function, whose parameter is named by its place
 abbrev pub putchar_function : Function
 putchar_function = record {
-    name = codes "putchar"; result = ty.Int 32; params = (0, ty.Int 32) ∷ []; bound = false; device_address = None;
-    registers = codes "0" ∷ []; labels = []; blocks = [] }
+  name = codes "putchar";
+  result = ty.Int 32;
+  params = (0, ty.Int 32) ∷ [];
+  bound = false;
+  device_address = None;
+  registers = codes "0" ∷ [];
+  labels = [];
+  blocks = [];
+}
 
 abbrev pub main_function : Body → Function
 main_function body = record {
-    name = codes "main"; result = ty.Int 32; params = []; bound = false; device_address = None;
-    registers = body.0; labels = codes "0" ∷ []; blocks = record { label = 0; instrs = body.1 } ∷ [] }
+  name = codes "main";
+  result = ty.Int 32;
+  params = [];
+  bound = false;
+  device_address = None;
+  registers = body.0;
+  labels = codes "0" ∷ [];
+  blocks = record { label = 0; instrs = body.1 } ∷ [];
+}
 
 abbrev pub layout_text : List ℕ
 layout_text = codes "E-p:32:32-i64:64"
 
 abbrev pub module_with : Bool → Body → Module
 module_with declared body = record {
-    layout = layout_text; types = []; globals = [];
-    functions = (if declared then putchar_function ∷ main_function body ∷ [] else main_function body ∷ []) }
+  layout = layout_text;
+  types = [];
+  globals = [];
+  functions = (if declared then putchar_function ∷ main_function body ∷ [] else main_function body ∷ []);
+}
 
 -- the lines from the definition on
 abbrev pub definition_of : Bool → List (List ℕ) → Option Module

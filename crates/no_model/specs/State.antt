@@ -74,5 +74,8 @@ register_count (Some f) = length f.registers
 -- the entry of main, with a zero in each register
 abbrev pub start : Module → Frame
 start m = record {
-    function = main_number m; block = 0; at = 0;
-    registers = replicate (register_count (slice_get m.functions (main_number m))) 0 }
+  function = main_number m;
+  block = 0;
+  at = 0;
+  registers = replicate (register_count (slice_get m.functions (main_number m))) 0;
+}

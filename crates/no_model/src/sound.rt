@@ -1,9 +1,8 @@
 ghost use Rattle.std.specs.Prelude.{◌≡◌};
 ghost use Rattle.no_model.specs.Accepted.{IsAccepted};
 
-use std::marker::Model;
-
 use no_ir::{Module, Role};
+use std::marker::Model;
 
 /// A module that was accepted, with its role.
 #[derive(Drop)]
