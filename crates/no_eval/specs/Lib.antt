@@ -1,0 +1,4 @@
+pub mod Numbers
+pub mod Binary
+pub mod Compare
+pub mod Cast

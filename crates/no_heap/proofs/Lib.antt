@@ -1,0 +1,9 @@
+pub mod Ordered
+pub mod Rising
+pub mod Gaps
+pub mod Telling
+pub mod Restored
+pub mod Placing
+pub mod Merging
+pub mod Comparing
+pub mod Left

@@ -1,0 +1,4 @@
+pub mod Blocks
+pub mod Fit
+pub mod Changes
+pub mod Steps

@@ -1,0 +1,172 @@
+ghost use Rattle.std.specs.Prelude.{◌≡◌, ◌<◌, ◌≤◌, ◌%◌, ◌-◌, List, [], length, None, IfOk, IfErr, IfSome, IfNone, vec_len, vec_capacity};
+ghost use Rattle.no_heap.specs.Blocks.{AreLive, set_block, Frees, SaysHeap, TakesOut};
+ghost use Rattle.no_heap.specs.Changes.{AreChanges, Applies};
+ghost use Rattle.no_heap.specs.Fit.{rounded as rounded_of, first_gap, fit, IsFit};
+
+use crate::bad::first_bad;
+use crate::block::{Block, Entry, HEAP_END, HEAP_START, HeapError, MOST_BLOCKS};
+use crate::comparison::compare;
+use crate::gap::{find_gap, rounded};
+use crate::leaving::leave;
+use crate::search::find;
+use no_ir::{List, NoMemory, Trap};
+use std::alloc::Global;
+use std::marker::Model;
+use std::mem;
+
+/// The live blocks, which contracts see as a list that rises by place.
+#[derive(Debug, Drop)]
+pub struct Heap {
+    blocks: Vec<Block>,
+    /// Room in which a changed list is made.
+    spare: Vec<Block>,
+}
+
+impl Model for Heap {
+    ghost use Rattle.std.specs.Prelude.{List, ◌≤◌, vec_capacity};
+    ghost use Rattle.no_heap.specs.declared.block.Block.{Block};
+    ghost use Rattle.no_heap.specs.declared.block.TheConstants.{MOST_BLOCKS};
+    ghost use Rattle.no_heap.specs.Blocks.{AreLive};
+
+    ghost Value = { List Block };
+
+    ghost view = { λ h. h.blocks.items };
+
+    ghost invariant = { λ h. AreLive h.blocks.items × (MOST_BLOCKS ≤ vec_capacity h.blocks) × (MOST_BLOCKS ≤ vec_capacity h.spare) };
+}
+
+impl Heap {
+    /// A heap without blocks, with room for 65,536 of them.
+    pub fn new(alloc: Global) -> Result<Heap, NoMemory>
+        ensures empty { IfOk result (λ heap. heap ≡ []) }
+    {
+        let blocks = Vec::with_capacity(alloc, MOST_BLOCKS)?;
+        let spare = Vec::with_capacity(alloc, MOST_BLOCKS)?;
+        Ok(Heap { blocks, spare })
+    }
+
+    /// The heap of these live blocks, or the first one that may not stand. It takes the room that `new` takes.
+    pub fn from_blocks(alloc: Global, blocks: &[Block]) -> Result<Heap, HeapError>
+        ensures { SaysHeap result blocks.now }
+    {
+        if let Some(index) = first_bad(blocks) {
+            return Err(HeapError::Bad { index });
+        }
+        let mut heap = Heap::new(alloc)?;
+        heap.blocks.extend_from_slice(blocks)?;
+        Ok(heap)
+    }
+
+    /// The live blocks, rising by place.
+    pub fn blocks(&self) -> &[Block]
+        ensures value { result.now ≡ self.now }
+        ensures live { AreLive self.now }
+    {
+        self.blocks.as_slice()
+    }
+
+    /// Puts in a block for so many bytes, and gives its place: the least multiple of 16 in the heap where the size,
+    /// rounded up to a multiple of 16 and at least 16, fits between the live blocks. None where it fits nowhere or
+    /// 65,536 blocks are live; nothing has changed then.
+    #[tactic(auto, using(crate::proofs::Gaps::fit_full, crate::proofs::Gaps::fit_large, crate::proofs::Gaps::fit_first, crate::proofs::Gaps::is_fit))]
+    pub fn place(&mut self, size: u64) -> Option<u32>
+        ensures least { IsFit self.old size result }
+        ensures value { result ≡ fit self.old size }
+        ensures placed { IfSome result (λ place. self.new ≡ set_block self.old place (rounded_of size)) }
+        ensures none { IfNone result (self.new ≡ self.old) }
+        ensures live { AreLive self.new }
+    {
+        if self.blocks.len() == MOST_BLOCKS {
+            return None;
+        }
+        if size > (HEAP_END - HEAP_START) as u64 {
+            return None;
+        }
+        put_first(&mut self.blocks, rounded(size))
+    }
+
+    /// Takes out the block that begins at an address. Address 0 changes nothing; any other where no live block
+    /// begins is `BadFree`, and nothing has changed then.
+    pub fn free(&mut self, addr: u64) -> Result<(), Trap>
+        ensures frees { Frees result self.old self.new addr }
+        ensures live { AreLive self.new }
+    {
+        let blocks = &mut self.blocks;
+        if addr == 0 {
+            return Ok(());
+        }
+        if take_out(blocks, addr) {
+            Ok(())
+        } else {
+            Err(Trap::BadFree)
+        }
+    }
+
+    /// What changed since earlier blocks, which `from_blocks` wouldn't call bad: one entry for each place whose block
+    /// differs, rising by place.
+    pub fn changes(&self, since: &[Block]) -> Result<List<Entry>, NoMemory>
+        requires { AreLive since.now }
+        ensures changes { IfOk result (AreChanges self.now since.now) }
+    {
+        compare(*self.blocks.allocator(), &self.blocks, since)
+    }
+
+    /// Tells entries of the blocks. False, with nothing changed, exactly where the entries don't rise by place, take
+    /// away what isn't there, or leave blocks that `from_blocks` would call bad.
+    pub fn apply(&mut self, entries: &[Entry]) -> bool
+        ensures applies { Applies result self.old self.new entries.now }
+        ensures live { AreLive self.new }
+    {
+        if !leave(&mut self.spare, &self.blocks, entries) {
+            return false;
+        }
+        mem::swap(&mut self.blocks, &mut self.spare);
+        true
+    }
+}
+
+/// Puts a block of this size at the first gap.
+#[tactic(auto, using(crate::proofs::Placing::live_put))]
+fn put_first(blocks: &mut Vec<Block>, need: u32) -> Option<u32>
+    requires live { AreLive blocks.old.items }
+    requires few { vec_len blocks.old < MOST_BLOCKS }
+    requires room { MOST_BLOCKS ≤ vec_capacity blocks.old }
+    requires multiple { need % 16 ≡ 0 }
+    requires some { 0 < need }
+    requires most { need ≤ HEAP_END - HEAP_START }
+    ensures value { result ≡ first_gap HEAP_START need blocks.old.items }
+    ensures placed { IfSome result (λ place. blocks.new.items ≡ set_block blocks.old.items place need) }
+    ensures none { IfNone result (blocks.new.items ≡ blocks.old.items) }
+    ensures live { AreLive blocks.new.items }
+    ensures room { MOST_BLOCKS ≤ vec_capacity blocks.new }
+{
+    let Some(gap) = find_gap(blocks, need) else {
+        return None;
+    };
+    blocks
+        .insert(
+            gap.index,
+            Block {
+                at: gap.at,
+                size: need,
+            },
+        )
+        .unwrap();
+    Some(gap.at)
+}
+
+/// Takes out the block that begins at an address, and says whether there was one.
+#[tactic(auto, using(crate::proofs::Placing::live_gone))]
+fn take_out(blocks: &mut Vec<Block>, addr: u64) -> bool
+    requires live { AreLive blocks.old.items }
+    requires room { MOST_BLOCKS ≤ vec_capacity blocks.old }
+    ensures freed { TakesOut result blocks.old.items blocks.new.items addr }
+    ensures live { AreLive blocks.new.items }
+    ensures room { MOST_BLOCKS ≤ vec_capacity blocks.new }
+{
+    let Some(index) = find(blocks, addr) else {
+        return false;
+    };
+    blocks.remove(index);
+    true
+}
