@@ -7,17 +7,14 @@ mod host_files;
 mod std_sink;
 mod std_source;
 
-use std::env;
-use std::io;
-use std::marker::Brand;
-use std::process::ExitCode;
-use std::sync::ledger::{Blank, Ledger};
-
+use host_files::HostFiles;
 use no_app::{Outcome, Steps, command, status};
 use no_ir::Text;
 use no_ports::{ClosedSpawner, ClosedWire};
-
-use host_files::HostFiles;
+use std::marker::Brand;
+use std::process::ExitCode;
+use std::sync::ledger::{Blank, Ledger};
+use std::{env, io};
 use std_sink::StdSink;
 use std_source::StdSource;
 

@@ -1,5 +1,5 @@
 -- A body is read line by line.
-use Rattle.std.proofs.Common.{◌≡◌, ◌≢◌, ℕ, ◌+◌, ◌≤◌, ◌<◌, Bool, true, false, List, [], ◌∷◌, ◌++◌, length, refl, sym, ap, subst, ◌∙◌, append_assoc, Option, Some, None, length-append, arith}
+use Rattle.std.proofs.Common.{◌≡◌, ℕ, ◌+◌, ◌≤◌, ◌<◌, Bool, List, [], ◌∷◌, ◌++◌, length, refl, sym, ap, ◌∙◌, append_assoc, Option, Some, None, length-append, arith}
 use Rattle.std.specs.Prelude.{codes}
 use Rattle.no_ir.specs.declared.instruction.Op.{Op}
 use Rattle.no_ir.specs.declared.instruction.Instr.{Instr}

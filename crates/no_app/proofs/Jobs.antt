@@ -1,5 +1,5 @@
 -- A job writes what its run writes.
-use Rattle.std.proofs.Common.{◌≡◌, ℕ, ◌+◌, ◌-◌, ◌≤◌, ◌<◌, min, List, [], ◌++◌, length, take, refl, sym, ap, subst, ◌∙◌, append_assoc, append-nil, add_assoc, add-zero, length-append, Option, Some, None, arith}
+use Rattle.std.proofs.Common.{◌≡◌, ℕ, ◌+◌, ◌-◌, ◌≤◌, List, [], ◌++◌, length, take, refl, sym, ap, subst, ◌∙◌, append_assoc, append-nil, add_assoc, add-zero, length-append, Option, Some, None, arith}
 use Rattle.std.proofs.lemmas.List.{take-append-le}
 use Rattle.std.proofs.Math.Seq.{take-append-add, take-append_seam}
 use Rattle.no_ports.specs.Meanings.{Rose, Adds, AddsPrefix}
@@ -9,9 +9,9 @@ use Rattle.no_ir.specs.declared.function.Module.{Module}
 use Rattle.no_model.specs.State.{start}
 use Rattle.no_model.specs.Run.{Ran, ended, following, run_from, run}
 use Rattle.no_app.specs.declared.machine.Machine.{Machine}
-use Rattle.no_app.specs.Running.{rest_from, rest_of, Does}
+use Rattle.no_app.specs.Running.{rest_of, Does}
 use Rattle.no_app.specs.Counted.{Counted}
-use Rattle.no_app.specs.Jobs.{IsRunOf, report_alone}
+use Rattle.no_app.specs.Jobs.{report_alone}
 
 pub following_twice : (xs ys : List ℕ) (m n : ℕ) (r : Ran) → following xs m (following ys n r) ≡ following (xs ++ ys) (m + n) r
 following_twice xs ys m n r = rw (append_assoc xs ys r.output, add_assoc m n r.count) refl

@@ -1,21 +1,18 @@
 -- Outcomes of a run, of a text and of a file.
-use Rattle.std.proofs.Common.{◌≡◌, ◌≢◌, ℕ, ◌+◌, ◌-◌, ◌≤◌, ◌<◌, List, length, take, refl, sym, ap, subst, ◌∙◌, Option, Some, None, arith, inl, inr, ◌⊎◌, true, false, lit<}
-use Rattle.std.specs.Prelude.{IfSome, nat_le, if◌then◌else◌}
+use Rattle.std.proofs.Common.{◌≡◌, ℕ, ◌≤◌, List, length, take, refl, sym, ap, subst, ◌∙◌, Option, Some, None, arith, inl, inr, true, false, lit<}
+use Rattle.std.specs.Prelude.{IfSome, nat_le}
 use Rattle.std.proofs.lemmas.List.{take_all, length-take-le}
 use Rattle.std.proofs.lemmas.Bool.{cases_Bool, leb-true, leb-false, lt-leb}
-use Rattle.std.proofs.Math.Seq.{take-length}
-use Rattle.no_ports.specs.Meanings.{Rose, Adds, AddsPrefix}
-use Rattle.no_ir.specs.declared.ending.End.{End}
+use Rattle.no_ports.specs.Meanings.{Rose}
 use Rattle.no_ir.specs.declared.ending.End.TheVariants as end
 use Rattle.no_ir.specs.declared.ending.Trap.{Trap}
 use Rattle.no_ir.specs.declared.function.Module.{Module}
 use Rattle.no_app.specs.declared.outcome.ModuleFault.{ModuleFault}
 use Rattle.no_model.specs.Reading.{module_of}
 use Rattle.no_model.specs.Run.{Ran, run}
-use Rattle.no_app.specs.Counted.{Counted}
 use Rattle.no_app.specs.Words.{Asked}
 use Rattle.no_app.specs.Jobs.{IsRunOf, Counts, input_of}
-use Rattle.no_app.specs.Outcomes.{Flow, Around, OnJob, OnModule, RanWhole, RanPart, RanAs, RunsText, RunsPart, RunsTo, IsRefused, Says, WritesPart, Idle, outcome_of, outcome_of_job, left_out}
+use Rattle.no_app.specs.Outcomes.{Flow, Around, OnModule, RanWhole, RanPart, RanAs, RunsText, RunsPart, Says, WritesPart, outcome_of, outcome_of_job, left_out}
 use Rattle.no_app.specs.declared.job.JobEnd.{JobEnd}
 use Rattle.no_app.specs.declared.job.JobEnd.TheVariants as job
 use Rattle.no_app.specs.declared.outcome.Outcome.{Outcome}

@@ -1,13 +1,11 @@
 -- One step of a machine is one step of its run.
-use Rattle.std.proofs.Common.{◌≡◌, ◌≢◌, ℕ, zero, suc, ◌+◌, ◌-◌, ◌≤◌, ◌<◌, List, [], ◌++◌, refl, sym, ap, subst, ◌∙◌, append-nil, append_assoc, add_assoc, Option, Some, None, arith}
+use Rattle.std.proofs.Common.{◌≡◌, ◌≢◌, ℕ, suc, ◌+◌, ◌-◌, ◌≤◌, List, [], ◌++◌, refl, sym, ap, subst, ◌∙◌, append-nil, Option, Some, None, arith}
 use Rattle.no_ir.specs.declared.ending.End.{End}
-use Rattle.no_ir.specs.declared.ending.End.TheVariants.{Unfinished}
 use Rattle.no_ir.specs.declared.function.Module.{Module}
 use Rattle.no_model.specs.declared.frame.Frame.{Frame}
-use Rattle.no_model.specs.Step.{Next, Goes, Ends, step}
-use Rattle.no_model.specs.Run.{Ran, ended, following, goes_on, run_from}
-use Rattle.no_app.specs.declared.machine.Machine.{Machine}
-use Rattle.no_app.specs.Running.{rest_from, rest_of, Does}
+use Rattle.no_model.specs.Step.{Goes, Ends, step}
+use Rattle.no_model.specs.Run.{ended, following, run_from}
+use Rattle.no_app.specs.Running.{Does}
 
 -- an instruction that goes on, within the budget
 pub run_goes : (m : Module) (n left : ℕ) (f g : Frame) (bytes : List ℕ) → n ≡ suc left → step m f ≡ Goes bytes g

@@ -1,4 +1,4 @@
-use Rattle.std.proofs.Common.{◌≡◌, ◌∙◌, refl, ap, arith, ℕ, ◌≤◌, ◌+◌, add-zero}
+use Rattle.std.proofs.Common.{◌∙◌, refl, ap, arith}
 use Rattle.no_app.specs.declared.machine.Machine.{Machine}
 use Rattle.no_app.proofs.Jobs.{so_start, so_more, so_prefix, so_so_far, so_end, counts_more, counts_start}
 use Rattle.no_app.proofs.job.local_job.Goals as goal

@@ -1,4 +1,3 @@
-use Rattle.std.proofs.Common.{◌≡◌, ◌∙◌, sym, ℕ, List}
 use Rattle.no_model.specs.Reading.{lines_of}
 use Rattle.no_app.proofs.Bodies.{body_more, room_more}
 use Rattle.no_app.proofs.reading.body.Goals as goal

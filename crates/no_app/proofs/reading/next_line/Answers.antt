@@ -1,4 +1,4 @@
-use Rattle.std.proofs.Common.{◌≡◌, ◌<◌, ◌≤◌, [], ◌∷◌, length, ℕ, sym, ◌∙◌, arith}
+use Rattle.std.proofs.Common.{◌<◌, length, sym, ◌∙◌, arith}
 use Rattle.no_app.proofs.Lines.{lines_last, lines_after, lines_more, full_of_test, full_of_length, empty_of_length}
 use Rattle.no_app.proofs.reading.next_line.Goals as goal
 
