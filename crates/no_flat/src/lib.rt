@@ -1,0 +1,11 @@
+//! A memory with all its pages, one vector for each region.
+#![tactic(auto)]
+
+mod flat;
+mod region;
+mod splice;
+
+pub use flat::FlatMemory;
+
+#[cfg(test)]
+mod tests;

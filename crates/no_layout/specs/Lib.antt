@@ -1,0 +1,11 @@
+pub mod Field
+pub mod Laws
+pub mod Measured
+pub mod Measures
+pub mod Memory
+pub mod Numbers
+pub mod Orders
+pub mod Part
+pub mod Sizes
+pub mod Stated
+pub mod Text
