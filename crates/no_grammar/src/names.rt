@@ -63,6 +63,13 @@ fn inner(bytes: &[u8]) -> &[u8]
     }
 }
 
+/// The bytes of a string between its quotes, without its escapes.
+pub fn unescaped_inner(alloc: Global, spelling: &[u8]) -> Result<Bytes, NoMemory>
+    ensures { IfOk result (λ all. all ≡ unescaped (inner spelling.now)) }
+{
+    unescaped(alloc, inner(spelling))
+}
+
 fn is_quoted(bytes: &[u8]) -> bool
     ensures { result ≡ is_quoted bytes.now }
 {

@@ -1,4 +1,4 @@
-ghost use Rattle.std.specs.Prelude.{◌≡◌, ◌+◌, ◌≤◌, ◌<◌, ◌^◌};
+ghost use Rattle.std.specs.Prelude.{◌≡◌, ◌+◌, ◌≤◌, ◌<◌, ◌^◌, IfOk};
 ghost use Rattle.no_grammar.specs.Numbers.{decimal, is_negative, digits_of, kept, integer_at, count_of};
 
 use crate::Flaw;
@@ -47,7 +47,8 @@ fn largest(width: u8) -> u64
 fn kept(width: u8, negative: bool, size: Option<u64>) -> Result<u64, Flaw>
     requires some { 0 < width }
     requires fits { width ≤ 64 }
-    ensures { result ≡ kept width negative size }
+    ensures is { result ≡ kept width negative size }
+    ensures below { IfOk result (λ n. n < 2 ^ width) }
 {
     let most = largest(width);
     match size {
@@ -61,7 +62,8 @@ fn kept(width: u8, negative: bool, size: Option<u64>) -> Result<u64, Flaw>
 
 /// An integer of a type of so many bits, as a number below 2 to the power of these.
 pub fn integer_at(width: u8, spelling: &[u8]) -> Result<u64, Flaw>
-    ensures { result ≡ integer_at width spelling.now }
+    ensures is { result ≡ integer_at width spelling.now }
+    ensures below { IfOk result (λ n. (0 < width) × (width ≤ 64) × (n < 2 ^ width)) }
 {
     if width == 0 || width > 64 {
         return Err(Flaw::Syntax);

@@ -25,7 +25,8 @@ pub enum TypeHead {
     Packed,
 }
 
-fn word_type(word: &[u8]) -> Result<TypeHead, Flaw>
+/// What a word begins as a type.
+pub fn word_type(word: &[u8]) -> Result<TypeHead, Flaw>
     ensures { result ≡ word_type word.now }
 {
     match word {
