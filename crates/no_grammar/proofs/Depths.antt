@@ -1,8 +1,7 @@
 -- A type is read by how many brackets may still be opened.
-use Rattle.std.proofs.Common.{◌≡◌, ℕ, suc, zero, ◌<◌, ◌-◌, List, Result, refl, sym, arith}
+use Rattle.std.proofs.Common.{◌≡◌, ℕ, suc, zero, ◌<◌, ◌-◌, List, refl, arith}
 use Rattle.no_lex.specs.declared.token.Token.{Token}
-use Rattle.no_ir.specs.declared.types.Ty.{Ty}
-use Rattle.no_grammar.specs.Rules.{Rule, plain, ◌>>=◌, checked}
+use Rattle.no_grammar.specs.Rules.{plain, ◌>>=◌, checked}
 use Rattle.no_grammar.specs.Scope.{Meaning}
 use Rattle.no_grammar.specs.Types.{type_head, leaf_of, after_type_head, a_type}
 

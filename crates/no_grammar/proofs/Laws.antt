@@ -1,9 +1,9 @@
 -- The two laws of each way to make a rule: what is read is meant, and what is meant is read.
-use Rattle.std.proofs.Common.{◌≡◌, ℕ, suc, zero, ◌<◌, Bool, true, false, List, [], ◌∷◌, ◌++◌, Option, Some, None, Result, Ok, Err, inl, inr, refl, sym, ap, subst, ◌∙◌, append_assoc, arith, true≢false}
+use Rattle.std.proofs.Common.{◌≡◌, Bool, true, false, List, [], ◌∷◌, ◌++◌, Result, Ok, Err, inl, inr, refl, sym, ap, subst, ◌∙◌, append_assoc}
 use Rattle.no_lex.specs.declared.token.Token.{Token}
 use Rattle.no_grammar.specs.declared.fault.Flaw.{Flaw}
 use Rattle.no_grammar.specs.declared.fault.Stopped.{Stopped}
-use Rattle.no_grammar.specs.Rules.{Rule, after, fault, IsOne, one_value, one_read, one, keeping, plain, done, change, IsThen, ◌>>=◌, lift_value, lift, next_is, choose, if_next, maybe, judged, IsChecked, checked, Found, Avoids, none, Good, IsSolid}
+use Rattle.no_grammar.specs.Rules.{Rule, after, one_value, one_read, one, keeping, plain, done, change, ◌>>=◌, lift_value, lift, next_is, choose, if_next, judged, checked, Found, Avoids, none, Good, IsSolid}
 
 abbrev okay : {A B : Type 0} → A → Result A B
 okay x = Ok x
@@ -50,12 +50,14 @@ module _ {S A : Type 0} where
   pub done_good : (g : Token → Bool) (a : A) → Good {S = S} g (done a)
   done_good g a = record {
     found = λ s tokens x e. subst (Found (done a) s tokens) (from_ok (a, s, tokens) x e) (record { used = []; parts = refl; meant = (refl, refl, refl) });
-    only = λ s t used rest b m _. rw (m.0, m.1, m.2) refl }
+    only = λ s t used rest b m _. rw (m.0, m.1, m.2) refl;
+  }
 
   pub change_good : (g : Token → Bool) (f : S → A × S) → Good g (change f)
   change_good g f = record {
     found = λ s tokens x e. subst (Found (change f) s tokens) (from_ok ((f s).0, (f s).1, tokens) x e) (record { used = []; parts = refl; meant = (refl, refl, refl) });
-    only = λ s t used rest b m _. rw (m.0, m.1, m.2) refl }
+    only = λ s t used rest b m _. rw (m.0, m.1, m.2) refl;
+  }
 
   -- ---- a rule in other places
 
@@ -70,7 +72,8 @@ module _ {S A : Type 0} where
   pub lift_good : (g : Token → Bool) (p : Rule (Unit {0}) A) → Good g p → Good {S = S} g (lift p)
   lift_good g p l = record {
     found = λ s tokens x e. lift_found p s tokens (p.read tt tokens) x refl (l.found tt tokens) e;
-    only = λ s t used rest a m av. rw (l.only tt tt used rest a m.0 av, m.1) refl }
+    only = λ s t used rest a m av. rw (l.only tt tt used rest a m.0 av, m.1) refl;
+  }
 
   pub lift_solid : (p : Rule (Unit {0}) A) → IsSolid p → IsSolid {S = S} (lift p)
   lift_solid p l s t a m = l tt tt a m.0
@@ -94,14 +97,15 @@ module _ {S A : Type 0} where
   -- what a rule took begins as the tokens do
   same_head : (test : Token → Bool) (p : Rule S A) (s t : S) (a : A) (used tokens rest : List Token) → tokens ≡ used ++ rest → p.means s used a t → IsSolid p → next_is test used ≡ next_is test tokens
   same_head test p s t a [] tokens rest e m solid = absurd (solid s t a m)
-  same_head test p s t a (u ∷ used) tokens rest e m solid = ap (next_is test) (sym e) 
+  same_head test p s t a (u ∷ used) tokens rest e m solid = ap (next_is test) (sym e)
 
   pub if_next_good : (g : Token → Bool) (test : Token → Bool) (p q : Rule S A) → Good g p → Good g q → IsSolid p → IsSolid q → Good g (if_next test p q)
   if_next_good g test p q gp gq sp sq = record {
     found = λ s tokens x e. if_next_found test p q s tokens x (next_is test tokens) refl
         (λ f. same_head test p s x.1 x.0 f.used tokens x.2 f.parts f.meant sp) (λ f. same_head test q s x.1 x.0 f.used tokens x.2 f.parts f.meant sq)
         (gp.found s tokens x) (gq.found s tokens x) e;
-    only = only }
+    only = only;
+  }
     where
       only : (s t : S) (used rest : List Token) (a : A) → (if_next test p q).means s used a t → Avoids g rest → (choose (next_is test (used ++ rest)) p q).read s (used ++ rest) ≡ Ok (a, t, rest)
       only s t [] rest a (inl m) av = absurd (sp s t a m.1)
@@ -120,6 +124,7 @@ module _ {S A : Type 0} where
       found : (s : S) (tokens : List Token) (x : A × S × List Token) (b : Bool) → next_is test tokens ≡ b → (choose b p (done a)).read s tokens ≡ Ok x → Found (if_next test p (done a)) s tokens x
       found s tokens x true is e = let f = gp.found s tokens x e in record { used = f.used; parts = f.parts; meant = inl (same_head test p s x.1 x.0 f.used tokens x.2 f.parts f.meant sp ∙ is, f.meant) }
       found s tokens x false is e = subst (Found (if_next test p (done a)) s tokens) (from_ok (a, s, tokens) x e) (record { used = []; parts = refl; meant = inr (refl, (refl, refl, refl)) })
+
       only : (s t : S) (used rest : List Token) (b : A) → (if_next test p (done a)).means s used b t → Avoids test rest → (choose (next_is test (used ++ rest)) p (done a)).read s (used ++ rest) ≡ Ok (b, t, rest)
       only s t [] rest b (inl m) av = absurd (sp s t b m.1)
       only s t (u ∷ used) rest b (inl m) av = subst (λ c. (choose c p (done a)).read s (u ∷ (used ++ rest)) ≡ Ok (b, t, rest)) (sym m.0) (gp.only s t (u ∷ used) rest b m.1 (avoids_none rest))
@@ -141,11 +146,13 @@ module _ {S A B : Type 0} where
         record {
           used = f.used ++ b.used;
           parts = f.parts ∙ ap (λ (l : List Token). f.used ++ l) b.parts ∙ sym (append_assoc f.used b.used x.2);
-          meant = record { front = f.used; back = b.used; first = r.0.0; between = r.0.1; parts = refl; in_front = f.meant; in_back = b.meant } };
+          meant = record { front = f.used; back = b.used; first = r.0.0; between = r.0.1; parts = refl; in_front = f.meant; in_back = b.meant };
+        };
     only = λ s t used rest b m av.
         let front : p.read s (m.front ++ (m.back ++ rest)) ≡ Ok (m.first, m.between, m.back ++ rest) = gp.only s m.between m.front (m.back ++ rest) m.first m.in_front (avoids_none (m.back ++ rest)) in
         let back : (q m.first).read m.between (m.back ++ rest) ≡ Ok (b, t, rest) = (gq m.first).only m.between t m.back rest b m.in_back av in
-        rw (m.parts, append_assoc, front) back }
+        rw (m.parts, append_assoc, front) back;
+  }
 
   -- the same where the first may go on: what follows doesn't begin so
   pub follow_good : (av g : Token → Bool) (p : Rule S A) (q : A → Rule S B) → Good av p → ((a : A) → Good g (q a))
@@ -158,12 +165,14 @@ module _ {S A B : Type 0} where
         record {
           used = f.used ++ b.used;
           parts = f.parts ∙ ap (λ (l : List Token). f.used ++ l) b.parts ∙ sym (append_assoc f.used b.used x.2);
-          meant = record { front = f.used; back = b.used; first = r.0.0; between = r.0.1; parts = refl; in_front = f.meant; in_back = b.meant } };
+          meant = record { front = f.used; back = b.used; first = r.0.0; between = r.0.1; parts = refl; in_front = f.meant; in_back = b.meant };
+        };
     only = λ s t used rest b m av'.
         let out : Avoids av (m.back ++ rest) = apart m.first m.between t m.back rest b m.in_back av' in
         let front : p.read s (m.front ++ (m.back ++ rest)) ≡ Ok (m.first, m.between, m.back ++ rest) = gp.only s m.between m.front (m.back ++ rest) m.first m.in_front out in
         let back : (q m.first).read m.between (m.back ++ rest) ≡ Ok (b, t, rest) = (gq m.first).only m.between t m.back rest b m.in_back av' in
-        rw (m.parts, append_assoc, front) back }
+        rw (m.parts, append_assoc, front) back;
+  }
 
   pub first_solid : (p : Rule S A) (q : A → Rule S B) → IsSolid p → IsSolid (p >>= q)
   first_solid p q sp s t b m = go m.front m.back m.parts m.in_front
@@ -182,7 +191,12 @@ module _ {S A B : Type 0} where
     found = λ s tokens x e.
         let r = after_ok (p.read s tokens) (λ y. judged tokens (f y.0) y) x e in
         judged_found p f s tokens r.0 (f r.0.0) x refl (gp.found s tokens r.0 r.1) r.2;
-    only = λ s t used rest b m av. rw (gp.only s t used rest m.value m.read av, m.passes) refl }
+    only = λ s t used rest b m av. rw (gp.only s t used rest m.value m.read av, m.passes) refl;
+  }
 
   pub checked_solid : (p : Rule S A) (f : A → Result B Flaw) → IsSolid p → IsSolid (checked p f)
   checked_solid p f sp s t b m = sp s t m.value m.read
+
+-- at most one value is read from a list of tokens
+pub once : {S A : Type 0} (g : Token → Bool) (p : Rule S A) → Good g p → (s t u : S) (tokens : List Token) (a b : A) → p.means s tokens a t → p.means s tokens b u → a ≡ b
+once {S = S} {A = A} g p l s t u tokens a b m n = ap (λ (x : A × S × List Token). x.0) (from_ok (a, t, []) (b, u, []) (sym (l.only s t tokens [] a m refl) ∙ l.only s u tokens [] b n refl))

@@ -1,7 +1,6 @@
 -- The laws of lists in brackets.
-use Rattle.std.proofs.Common.{◌≡◌, ℕ, Bool, true, false, List, [], ◌∷◌, Option, Some, None}
-use Rattle.no_lex.specs.declared.token.Token.{Token}
-use Rattle.no_grammar.specs.Rules.{Rule, none, next_is, Good, IsSolid}
+use Rattle.std.proofs.Common.{ℕ, List, [], ◌∷◌, Some, None}
+use Rattle.no_grammar.specs.Rules.{Rule, none, Good, IsSolid}
 use Rattle.no_grammar.specs.Spelled.{is_sign}
 use Rattle.no_grammar.specs.Lists.{more_item, some_items, no_items, items}
 use Rattle.no_grammar.proofs.Laws.{avoids_none, plain_good, plain_solid, done_good, choose_good, then_good, first_solid, if_next_good, if_next_solid}

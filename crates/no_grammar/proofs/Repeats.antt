@@ -1,13 +1,13 @@
 -- The laws of lists that repeat a step.
-use Rattle.std.proofs.Common.{◌≡◌, ℕ, suc, zero, ◌<◌, Bool, true, false, List, [], ◌∷◌, ◌++◌, length, Option, Some, None, Result, Ok, Err, refl, sym, ap, subst, ◌∙◌, append_assoc, append-nil, arith}
+use Rattle.std.proofs.Common.{◌≡◌, ℕ, suc, zero, ◌<◌, Bool, false, List, [], ◌∷◌, ◌++◌, length, Option, Some, None, Result, Ok, Err, refl, sym, ap, subst, ◌∙◌, append_assoc, append-nil, arith}
 use Rattle.std.proofs.lemmas.List.{length-append}
 use Rattle.no_lex.specs.declared.token.Token.{Token}
 use Rattle.no_grammar.specs.declared.fault.Stopped.{Stopped}
 use Rattle.no_grammar.specs.declared.fault.Stop.{Stop}
 use Rattle.no_grammar.specs.declared.fault.Stop.TheVariants as stop
-use Rattle.no_grammar.specs.Rules.{Rule, after, fault, Fails, Found, Avoids, none, next_is, Good, IsSolid}
-use Rattle.no_grammar.specs.Repeated.{with_item, next_item, IsItem, IsRepeated, repeat_read, repeat_all, repeat, with_front}
-use Rattle.no_grammar.proofs.Laws.{from_ok, after_ok, avoids_none}
+use Rattle.no_grammar.specs.Rules.{Rule, after, Fails, Found, Avoids, next_is, Good, IsSolid}
+use Rattle.no_grammar.specs.Repeated.{with_item, next_item, IsRepeated, repeat_read, repeat_all, repeat, with_front}
+use Rattle.no_grammar.proofs.Laws.{from_ok, after_ok}
 
 module _ {S A : Type 0} (av : Token → Bool) (step : Rule S (Option A)) (gs : Good av step) (solid : IsSolid step) where
   pub takes : (s : S) (tokens : List Token) (x : Option A × S × List Token) → step.read s tokens ≡ Ok x → length x.2 < length tokens
@@ -88,7 +88,8 @@ module _ {S A : Type 0} (av : Token → Bool) (step : Rule S (Option A)) (gs : G
             subst (Found (repeat step) s tokens) (from_ok (a ∷ r.0.0, r.0.1, r.0.2) x r.2) (record {
               used = f.used ++ b.used;
               parts = f.parts ∙ ap (λ (l : List Token). f.used ++ l) b.parts ∙ sym (append_assoc f.used b.used r.0.2);
-              meant = record { front = f.used; back = b.used; between = t; parts = refl; item = f.meant; others = b.meant } })
+              meant = record { front = f.used; back = b.used; between = t; parts = refl; item = f.meant; others = b.meant };
+            })
 
     begins_apart : (s t : S) (items : List A) (used rest : List Token) → IsRepeated step s used items t → Avoids av rest → Avoids av (used ++ rest)
     begins_apart s t items [] rest m out = out

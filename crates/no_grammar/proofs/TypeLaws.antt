@@ -1,5 +1,5 @@
 -- The laws of types, and the loop over the fields of a struct.
-use Rattle.std.proofs.Common.{◌≡◌, ℕ, suc, zero, ◌<◌, List, [], ◌∷◌, ◌++◌, Option, Some, None, Result, Ok, Err, length, codes}
+use Rattle.std.proofs.Common.{◌≡◌, ℕ, suc, zero, ◌<◌, List, [], ◌∷◌, ◌++◌, Option, Some, None, Result, Ok, length}
 use Rattle.no_lex.specs.declared.token.Token.{Token}
 use Rattle.no_ir.specs.declared.types.Ty.{Ty}
 use Rattle.no_grammar.specs.declared.fault.Stop.{Stop}
@@ -10,8 +10,8 @@ use Rattle.no_grammar.specs.Rules.{Rule, Fails, none, Good, IsSolid}
 use Rattle.no_grammar.specs.Repeated.{repeat_all, with_front}
 use Rattle.no_grammar.specs.Scope.{Meaning}
 use Rattle.no_grammar.specs.Lists.{more_item}
-use Rattle.no_grammar.specs.Types.{type_head, leaf_of, array_parts, struct_parts, packed_parts, after_type_head, a_type}
-use Rattle.no_grammar.proofs.Laws.{plain_good, plain_solid, done_good, then_good, first_solid, checked_good, checked_solid}
+use Rattle.no_grammar.specs.Types.{leaf_of, array_parts, struct_parts, packed_parts, after_type_head, a_type}
+use Rattle.no_grammar.proofs.Laws.{once, plain_good, plain_solid, done_good, then_good, first_solid, checked_good, checked_solid}
 use Rattle.no_grammar.proofs.ListLaws.{items_good, more_good, more_solid}
 use Rattle.no_grammar.proofs.Repeats as repeats
 
@@ -44,6 +44,10 @@ pub type_good : (m : Meaning) (depth : ℕ) → Good none (a_type m depth)
 unfolding a_type
 type_good m zero = checked_good none _ leaf_of (plain_good _)
 type_good m (suc depth) = then_good none _ _ (plain_good _) (after_good m (a_type m depth) (type_good m depth) (type_solid m depth))
+
+-- at most one type is read
+pub one_type : (m : Meaning) (depth : ℕ) (tokens : List Token) (a b : Ty) → (a_type m depth).means tt tokens a tt → (a_type m depth).means tt tokens b tt → a ≡ b
+one_type m depth tokens a b x y = once none (a_type m depth) (type_good m depth) tt tt tt tokens a b x y
 
 -- ---- the loop over fields
 

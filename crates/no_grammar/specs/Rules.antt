@@ -1,9 +1,9 @@
 -- Grammar rules over lists of tokens. A rule is what it means, a relation on whole lists, and how it is read, from the front.
 -- A rule may change a state on its way, as the names that a function has so far.
-use Rattle.std.specs.Prelude.{◌≡◌, ℕ, suc, ◌<◌, Bool, true, false, List, [], ◌∷◌, ◌++◌, Option, Some, None, Result, Ok, Err, ◌⊎◌, length, if◌then◌else◌}
+use Rattle.std.specs.Prelude.{◌≡◌, ℕ, Bool, true, false, List, [], ◌∷◌, ◌++◌, Option, Some, None, Result, Ok, Err, ◌⊎◌}
 use Rattle.no_lex.specs.declared.token.Token.{Token}
 use Rattle.no_grammar.specs.declared.fault.Flaw.{Flaw}
-use Rattle.no_grammar.specs.declared.fault.Flaw.TheVariants.{Syntax, LeftOut, Number}
+use Rattle.no_grammar.specs.declared.fault.Flaw.TheVariants.{Syntax}
 use Rattle.no_grammar.specs.declared.fault.Stopped.{Stopped}
 use Rattle.no_grammar.specs.declared.fault.Stop.{Stop}
 use Rattle.no_grammar.specs.declared.fault.Stop.TheVariants as stop
@@ -115,7 +115,8 @@ choose false p q = q
 abbrev pub if_next : {S A : Type 0} → (Token → Bool) → Rule S A → Rule S A → Rule S A
 if_next test p q = record {
   means = λ s tokens a t. ((next_is test tokens ≡ true) × p.means s tokens a t) ⊎ ((next_is test tokens ≡ false) × q.means s tokens a t);
-  read = λ s tokens. (choose (next_is test tokens) p q).read s tokens }
+  read = λ s tokens. (choose (next_is test tokens) p q).read s tokens;
+}
 
 -- a rule whose first token passes the test, or nothing
 abbrev pub maybe : {S A : Type 0} → (Token → Bool) → Rule S A → Rule S (Option A)

@@ -1,5 +1,5 @@
 -- Strings and names, without their quotes and escapes.
-use Rattle.std.specs.Prelude.{ℕ, ◌+◌, ◌-◌, ◌*◌, Bool, true, false, ◌&&◌, ◌||◌, List, [], ◌∷◌, ◌==◌, nat_le, length, take, drop, if◌then◌else◌}
+use Rattle.std.specs.Prelude.{ℕ, ◌+◌, ◌-◌, ◌*◌, Bool, false, ◌&&◌, ◌||◌, List, [], ◌∷◌, ◌==◌, nat_le, length, take, drop, if◌then◌else◌}
 
 -- a hexadecimal digit
 abbrev pub is_hex : ℕ → Bool

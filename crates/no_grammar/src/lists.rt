@@ -6,7 +6,11 @@ use crate::step::{is_sign, syntax};
 use no_lex::Token;
 
 /// Behind an item: whether the list closes with this sign, or goes on with a comma.
-pub fn closes_list<'b>(text: &[u8], close: &[u8], tokens: &'b [Token]) -> Result<(bool, &'b [Token]), Stop>
+pub fn closes_list<'b>(
+    text: &[u8],
+    close: &[u8],
+    tokens: &'b [Token],
+) -> Result<(bool, &'b [Token]), Stop>
     ensures { Gives (λ x. valued x.0 x.1.now) result ((plain (closes_list text.now close.now)).read tt tokens.now) }
 {
     match tokens {

@@ -32,7 +32,10 @@ fn first_byte(bytes: &[u8]) -> (u8, usize)
     match bytes {
         [] => (0, 1),
         [b'\\', b'\\', ..] => (b'\\', 2),
-        [b'\\', high, low, ..] if is_hex(*high) && is_hex(*low) => (16 * hex_value(*high) + hex_value(*low), 3),
+        [b'\\', high, low, ..] if is_hex(*high) && is_hex(*low) => (
+            16 * hex_value(*high) + hex_value(*low),
+            3,
+        ),
         [byte, ..] => (*byte, 1),
     }
 }

@@ -41,7 +41,11 @@ fn largest(width: u8) -> u64
     requires fits { width ≤ 64 }
     ensures { result + 1 ≡ 2 ^ width }
 {
-    if width == 64 { u64::MAX } else { (1u64 << width) - 1 }
+    if width == 64 {
+        u64::MAX
+    } else {
+        (1u64 << width) - 1
+    }
 }
 
 fn kept(width: u8, negative: bool, size: Option<u64>) -> Result<u64, Flaw>

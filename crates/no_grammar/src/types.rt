@@ -1,8 +1,10 @@
-ghost use Rattle.std.specs.Prelude.{◌≡◌, ◌∷◌, [], codes, map, IfOk};
+ghost use Rattle.no_ir.specs.declared.types.Ty.{Ty};
+ghost use Rattle.no_lex.specs.declared.token.Token.{Token};
+ghost use Rattle.std.specs.Prelude.{ℕ, List, ◌≡◌, ◌∷◌, [], codes, map, IfOk};
 ghost use Rattle.no_grammar.specs.Lists.{more_item, some_items, items};
 ghost use Rattle.no_grammar.specs.Repeated.{repeat_all, with_front};
-ghost use Rattle.no_grammar.specs.Rules.{Gives, valued, plain, checked};
-ghost use Rattle.no_grammar.specs.Scope.{seen};
+ghost use Rattle.no_grammar.specs.Rules.{none, Good, Gives, valued, plain, checked};
+ghost use Rattle.no_grammar.specs.Scope.{Meaning, seen};
 ghost use Rattle.no_grammar.specs.Types.{word_type, sign_type, named_type, number_in, type_head, leaf_of, count_token, array_parts, struct_parts, packed_parts, a_type, same_type, pairs};
 
 use crate::lists::closes_list;
@@ -52,7 +54,11 @@ fn sign_type(sign: &[u8]) -> Result<TypeHead, Flaw>
     }
 }
 
-fn named_type(alloc: Global, scope: &Scope, spelling: &[u8]) -> Result<Result<TypeHead, Flaw>, NoMemory>
+fn named_type(
+    alloc: Global,
+    scope: &Scope,
+    spelling: &[u8],
+) -> Result<Result<TypeHead, Flaw>, NoMemory>
     ensures { IfOk result (λ head. head ≡ named_type (number_in (seen scope.now).named spelling.now)) }
 {
     match number_in(alloc, scope.named, spelling)? {
@@ -76,7 +82,11 @@ fn head_of(alloc: Global, scope: &Scope, token: &Token) -> Result<Result<TypeHea
     }
 }
 
-fn type_head<'b>(alloc: Global, scope: &Scope, tokens: &'b [Token]) -> Result<(TypeHead, &'b [Token]), Stop>
+fn type_head<'b>(
+    alloc: Global,
+    scope: &Scope,
+    tokens: &'b [Token],
+) -> Result<(TypeHead, &'b [Token]), Stop>
     ensures { Gives (λ x. valued x.0 x.1.now) result ((plain (type_head (seen scope.now))).read tt tokens.now) }
 {
     match tokens {
@@ -92,7 +102,9 @@ fn count<'b>(scope: &Scope, tokens: &'b [Token]) -> Result<(u64, &'b [Token]), S
     ensures { Gives (λ x. valued x.0 x.1.now) result ((plain (count_token (seen scope.now).text)).read tt tokens.now) }
 {
     match tokens {
-        [token, rest @ ..] if is_kind(TokenKind::Integer, token) => match count_of(spelled(scope.text, token)) {
+        [token, rest @ ..] if is_kind(TokenKind::Integer, token) => match count_of(spelled(
+            scope.text, token,
+        )) {
             Ok(count) => Ok((count, rest)),
             Err(flaw) => Err(fault_at(flaw, tokens)),
         },
@@ -116,7 +128,12 @@ fn leaf<'b>(alloc: Global, scope: &Scope, tokens: &'b [Token]) -> Result<(Ty, &'
 /// A type in which so many brackets may stand one in another.
 #[cycle(types)]
 #[tactic(auto, using(crate::proofs::Depths::type_none, crate::proofs::Depths::type_more))]
-pub fn a_type<'b>(alloc: Global, scope: &Scope, depth: u32, tokens: &'b [Token]) -> Result<(Ty, &'b [Token]), Stop>
+pub fn a_type<'b>(
+    alloc: Global,
+    scope: &Scope,
+    depth: u32,
+    tokens: &'b [Token],
+) -> Result<(Ty, &'b [Token]), Stop>
     ensures { Gives (λ x. valued x.0 x.1.now) result ((a_type (seen scope.now) depth).read tt tokens.now) }
 {
     if depth == 0 {
@@ -135,7 +152,12 @@ pub fn a_type<'b>(alloc: Global, scope: &Scope, depth: u32, tokens: &'b [Token])
 
 #[cycle(types)]
 #[tactic(auto, unfolding(crate::specs::Types::array_parts))]
-fn array_parts<'b>(alloc: Global, scope: &Scope, depth: u32, tokens: &'b [Token]) -> Result<(Ty, &'b [Token]), Stop>
+fn array_parts<'b>(
+    alloc: Global,
+    scope: &Scope,
+    depth: u32,
+    tokens: &'b [Token],
+) -> Result<(Ty, &'b [Token]), Stop>
     ensures { Gives (λ x. valued x.0 x.1.now) result ((array_parts (seen scope.now) (a_type (seen scope.now) depth)).read tt tokens.now) }
 {
     let (count, rest) = count(scope, tokens)?;
@@ -147,7 +169,12 @@ fn array_parts<'b>(alloc: Global, scope: &Scope, depth: u32, tokens: &'b [Token]
 
 #[cycle(types)]
 #[tactic(auto, unfolding(crate::specs::Types::struct_parts))]
-fn struct_parts<'b>(alloc: Global, scope: &Scope, depth: u32, tokens: &'b [Token]) -> Result<(Ty, &'b [Token]), Stop>
+fn struct_parts<'b>(
+    alloc: Global,
+    scope: &Scope,
+    depth: u32,
+    tokens: &'b [Token],
+) -> Result<(Ty, &'b [Token]), Stop>
     ensures { Gives (λ x. valued x.0 x.1.now) result ((struct_parts (seen scope.now) (a_type (seen scope.now) depth)).read tt tokens.now) }
 {
     let (fields, rest) = fields(alloc, scope, depth, tokens)?;
@@ -156,7 +183,12 @@ fn struct_parts<'b>(alloc: Global, scope: &Scope, depth: u32, tokens: &'b [Token
 
 #[cycle(types)]
 #[tactic(auto, unfolding(crate::specs::Types::packed_parts))]
-fn packed_parts<'b>(alloc: Global, scope: &Scope, depth: u32, tokens: &'b [Token]) -> Result<(Ty, &'b [Token]), Stop>
+fn packed_parts<'b>(
+    alloc: Global,
+    scope: &Scope,
+    depth: u32,
+    tokens: &'b [Token],
+) -> Result<(Ty, &'b [Token]), Stop>
     ensures { Gives (λ x. valued x.0 x.1.now) result ((packed_parts (seen scope.now) (a_type (seen scope.now) depth)).read tt tokens.now) }
 {
     let rest = skip_sign(scope.text, b"{", tokens)?;
@@ -168,7 +200,12 @@ fn packed_parts<'b>(alloc: Global, scope: &Scope, depth: u32, tokens: &'b [Token
 /// The fields of a struct, and its closing bracket.
 #[cycle(types)]
 #[tactic(auto, unfolding(crate::specs::Lists::items, crate::specs::Lists::no_items, crate::specs::Lists::some_items))]
-fn fields<'b>(alloc: Global, scope: &Scope, depth: u32, tokens: &'b [Token]) -> Result<(List<Ty>, &'b [Token]), Stop>
+fn fields<'b>(
+    alloc: Global,
+    scope: &Scope,
+    depth: u32,
+    tokens: &'b [Token],
+) -> Result<(List<Ty>, &'b [Token]), Stop>
     ensures { Gives (λ x. valued x.0 x.1.now) result ((items (seen scope.now).text (codes "}") (a_type (seen scope.now) depth)).read tt tokens.now) }
 {
     match tokens {
@@ -179,7 +216,12 @@ fn fields<'b>(alloc: Global, scope: &Scope, depth: u32, tokens: &'b [Token]) -> 
 
 #[cycle(types)]
 #[tactic(auto, unfolding(crate::specs::Lists::some_items))]
-fn some_fields<'b>(alloc: Global, scope: &Scope, depth: u32, tokens: &'b [Token]) -> Result<(List<Ty>, &'b [Token]), Stop>
+fn some_fields<'b>(
+    alloc: Global,
+    scope: &Scope,
+    depth: u32,
+    tokens: &'b [Token],
+) -> Result<(List<Ty>, &'b [Token]), Stop>
     ensures { Gives (λ x. valued x.0 x.1.now) result ((some_items (seen scope.now).text (codes "}") (a_type (seen scope.now) depth)).read tt tokens.now) }
 {
     let (first, rest) = a_type(alloc, scope, depth, tokens)?;
@@ -188,7 +230,13 @@ fn some_fields<'b>(alloc: Global, scope: &Scope, depth: u32, tokens: &'b [Token]
 
 /// The fields behind the first.
 #[cycle(types)]
-fn more_fields<'b>(alloc: Global, scope: &Scope, depth: u32, first: Ty, tokens: &'b [Token]) -> Result<(List<Ty>, &'b [Token]), Stop>
+fn more_fields<'b>(
+    alloc: Global,
+    scope: &Scope,
+    depth: u32,
+    first: Ty,
+    tokens: &'b [Token],
+) -> Result<(List<Ty>, &'b [Token]), Stop>
     ensures { Gives (λ x. valued x.0 x.1.now) result (with_front (first ∷ []) (repeat_all (more_item (seen scope.now).text (codes "}") (a_type (seen scope.now) depth)) tt tokens.now)) }
 {
     let mut all = List::new(alloc);
@@ -208,7 +256,12 @@ fn more_fields<'b>(alloc: Global, scope: &Scope, depth: u32, first: Ty, tokens: 
 
 #[cycle(types)]
 #[tactic(auto, unfolding(crate::specs::Lists::more_item))]
-fn more_field<'b>(alloc: Global, scope: &Scope, depth: u32, tokens: &'b [Token]) -> Result<(Option<Ty>, &'b [Token]), Stop>
+fn more_field<'b>(
+    alloc: Global,
+    scope: &Scope,
+    depth: u32,
+    tokens: &'b [Token],
+) -> Result<(Option<Ty>, &'b [Token]), Stop>
     ensures { Gives (λ x. valued x.0 x.1.now) result ((more_item (seen scope.now).text (codes "}") (a_type (seen scope.now) depth)).read tt tokens.now) }
 {
     let (closes, rest) = closes_list(scope.text, b"}", tokens)?;
@@ -218,6 +271,18 @@ fn more_field<'b>(alloc: Global, scope: &Scope, depth: u32, tokens: &'b [Token])
     let (field, rest) = a_type(alloc, scope, depth, rest)?;
     Ok((Some(field), rest))
 }
+
+/// Types are read exactly: what was read is meant by the tokens that were taken, and what tokens mean is read from them.
+#[tactic(auto, using(crate::proofs::TypeLaws::type_good))]
+pub fn types_are_exact()
+    ensures { (m : Meaning) (depth : ℕ) → Good none (a_type m depth) }
+{}
+
+/// At most one type is meant by a list of tokens.
+#[tactic(auto, using(crate::proofs::TypeLaws::one_type))]
+pub fn at_most_one_type()
+    ensures { (m : Meaning) (depth : ℕ) (tokens : List Token) (a b : Ty) → (a_type m depth).means tt tokens a tt → (a_type m depth).means tt tokens b tt → a ≡ b }
+{}
 
 /// Whether two types are the same.
 #[cycle(same)]
@@ -233,7 +298,8 @@ pub fn same_type(a: &Ty, b: &Ty) -> bool
             _ => false,
         },
         Ty::Struct(packed, fields) => match b {
-            Ty::Struct(other, inner) => packed == other && same_fields(fields.as_slice(), inner.as_slice()),
+            Ty::Struct(other, inner) => packed == other
+                && same_fields(fields.as_slice(), inner.as_slice()),
             _ => false,
         },
         Ty::Named(number) => matches!(b, Ty::Named(other) if number == other),

@@ -1,5 +1,5 @@
-use Rattle.std.proofs.Common.{◌≡◌, ℕ, List, ap, sym, ◌∙◌, bytes_eq, position, Bool, true, false, if◌then◌else◌}
-use Rattle.no_grammar.specs.Unescaped.{is_quoted, inner, unescaped, name_of}
+use Rattle.std.proofs.Common.{◌≡◌, ℕ, List, ap, ◌∙◌, bytes_eq, position, Bool, if◌then◌else◌}
+use Rattle.no_grammar.specs.Unescaped.{inner, unescaped, name_of}
 use Rattle.no_grammar.proofs.names.find_name.Goals as goal
 
 pub returns-in_ok-name : goal.returns-in_ok-name

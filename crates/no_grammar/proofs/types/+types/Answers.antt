@@ -1,4 +1,4 @@
-use Rattle.std.proofs.Common.{◌≡◌, codes}
+use Rattle.std.proofs.Common.{codes}
 use Rattle.std.proofs.lemmas.Result.{err_from_is_err_and}
 use Rattle.no_grammar.specs.Scope.{seen}
 use Rattle.no_grammar.proofs.TypeLaws.{fields_fail, fields_stop, fields_fall, fields_go}
