@@ -12,7 +12,7 @@ use Rattle.no_grammar.specs.Repeated.{repeat_all, with_front}
 use Rattle.no_grammar.specs.Scope.{Meaning}
 use Rattle.no_grammar.specs.Lists.{more_item, closes_list}
 use Rattle.no_grammar.specs.Types.{a_type, must_be}
-use Rattle.no_grammar.proofs.Laws.{from_ok, after_ok, plain_good, plain_solid, done_good, then_good, first_solid, checked_good, checked_solid, choose_good, if_next_good, if_next_solid}
+use Rattle.no_grammar.proofs.Laws.{once, from_ok, after_ok, plain_good, plain_solid, done_good, then_good, first_solid, checked_good, checked_solid, choose_good, if_next_good, if_next_solid}
 use Rattle.no_grammar.proofs.ListLaws.{items_good, more_good, more_solid}
 use Rattle.no_grammar.proofs.Repeats as repeats
 use Rattle.no_grammar.proofs.TypeLaws.{type_good, type_solid}
@@ -128,6 +128,10 @@ const_good m zero ty = if_next_good none (begins_place m.text) (address m zero) 
 const_good m (suc depth) ty = if_next_good none (begins_place m.text) (address m (suc depth)) (bracket_const m depth (a_const m depth) ty) (address_good m (suc depth))
     (then_good none _ _ (plain_good _) (head_good m depth (a_const m depth) (const_good m depth) ty)) (address_solid m (suc depth)) (first_solid _ _ (plain_solid _))
 
+-- at most one constant is read
+pub one_const : (m : Meaning) (depth : ℕ) (ty : Ty) (tokens : List Token) (a b : Const) → (a_const m depth ty).means tt tokens a tt → (a_const m depth ty).means tt tokens b tt → a ≡ b
+one_const m depth ty tokens a b x y = once none (a_const m depth ty) (const_good m depth ty) tt tt tt tokens a b x y
+
 -- ---- the loops
 
 abbrev Total : Type 0
@@ -201,11 +205,13 @@ module _ (m : Meaning) (depth : ℕ) where
       refused : (from : List Token) (x : Result (Ty × Unit {0} × List Token) Stopped) → after {B = Option Const × Unit {0} × List Token} x (λ y. judged from (Err Syntax) y) ≡ Ok (o, tt, rest) → ⊥
       refused from (Ok y) k = cc
       refused from (Err d) k = cc
+
       go : (closes : Bool) (from : List Token) → (choose closes (done None) (past m depth inside)).read tt from ≡ Ok (o, tt, rest) → ⊥
       go true from k = none_some o a (from_first (None, tt, from) (o, tt, rest) (from_ok {A = Option Const × Unit {0} × List Token} (None, tt, from) (o, tt, rest) k)) is
         where
           from_first : (x y : Option Const × Unit {0} × List Token) → x ≡ y → x.0 ≡ y.0
           from_first x y p = ap (λ (t : Option Const × Unit {0} × List Token). t.0) p
+
           none_some : (x : Option Const) (y : Const) → None ≡ x → x ≡ Some y → ⊥
           none_some x y p q = cc
       go false from k = refused from ((a_type m depth).read tt from) k

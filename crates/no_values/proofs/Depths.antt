@@ -1,8 +1,7 @@
 -- A constant is read by how many brackets may still be opened.
-use Rattle.std.proofs.Common.{◌≡◌, ℕ, suc, zero, ◌<◌, ◌-◌, Bool, true, false, List, [], ◌∷◌, Result, refl, sym, arith}
+use Rattle.std.proofs.Common.{◌≡◌, ℕ, suc, zero, ◌<◌, ◌-◌, true, false, List, refl, arith}
 use Rattle.no_lex.specs.declared.token.Token.{Token}
 use Rattle.no_ir.specs.declared.types.Ty.{Ty}
-use Rattle.no_ir.specs.declared.constant.Const.{Const}
 use Rattle.no_grammar.specs.Rules.{next_is}
 use Rattle.no_grammar.specs.Scope.{Meaning}
 use Rattle.no_values.specs.Places.{begins_place}

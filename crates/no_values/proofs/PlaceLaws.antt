@@ -1,14 +1,13 @@
 -- The laws of places.
-use Rattle.std.proofs.Common.{◌≡◌, ◌<◌, ℕ, Bool, true, false, List, [], ◌∷◌, ◌++◌, ◌&&◌, length, codes, Option, Some, None, Result, Ok, Err, if◌then◌else◌, refl, sym, ap, subst, ◌∙◌, append_assoc, true≢false, arith}
+use Rattle.std.proofs.Common.{◌≡◌, ◌<◌, ℕ, Bool, true, false, List, [], ◌∷◌, ◌++◌, ◌&&◌, length, codes, Option, Some, None, Result, Ok, if◌then◌else◌, refl, sym, ap, ◌∙◌, append_assoc, true≢false}
 use Rattle.std.specs.Prelude.{ℤ}
 use Rattle.std.specs.List.{list_all}
 use Rattle.no_lex.specs.declared.token.Token.{Token}
-use Rattle.no_ir.specs.declared.constant.Place.{Place}
 use Rattle.no_grammar.specs.declared.fault.Stop.{Stop}
 use Rattle.no_grammar.specs.declared.fault.Stopped.{Stopped}
 use Rattle.no_grammar.specs.Lists.{more_item}
-use Rattle.no_grammar.specs.Repeated.{repeat, repeat_all, with_front}
-use Rattle.no_grammar.specs.Rules.{Rule, Fails, Found, next_is, Avoids, none, Good, IsSolid}
+use Rattle.no_grammar.specs.Repeated.{repeat_all, with_front}
+use Rattle.no_grammar.specs.Rules.{Rule, Fails, next_is, Avoids, none, Good, IsSolid}
 use Rattle.no_grammar.specs.Scope.{Meaning}
 use Rattle.no_grammar.proofs.Laws.{avoids_none, plain_good, plain_solid, done_good, then_good, first_solid}
 use Rattle.no_grammar.proofs.ListLaws.{more_good, more_solid}
@@ -16,7 +15,7 @@ use Rattle.no_grammar.proofs.Repeats.{repeat_good}
 use Rattle.no_grammar.proofs.Repeats as repeats
 use Rattle.no_grammar.proofs.TypeLaws.{type_good}
 use Rattle.no_values.specs.Places.{is_flag, an_index, indices, gep_parts, after_place_head, a_place}
-use Rattle.no_values.specs.Skipped.{skip_while, IsBehind, behind}
+use Rattle.no_values.specs.Skipped.{skip_while, behind}
 use Rattle.no_values.specs.declared.places.PlaceHead.{PlaceHead}
 use Rattle.no_values.specs.declared.places.PlaceHead.TheVariants.{Bare, Gep}
 
@@ -49,16 +48,22 @@ module _ {S A : Type 0} (test : Token → Bool) (p : Rule S A) where
   pub behind_good : (g : Token → Bool) → Good g p → IsSolid p → Good g (behind test p)
   behind_good g l solid = record {
     found = λ s tokens x e. let k = skips test tokens in let f = l.found s (skip_while test tokens) x e in
-        record { used = k.front ++ f.used; parts = k.parts ∙ ap (λ (r : List Token). k.front ++ r) f.parts ∙ sym (append_assoc k.front f.used x.2);
-          meant = record { front = k.front; back = f.used; parts = refl; pass = k.pass; stops = head s x.1 x.0 f.used (skip_while test tokens) x.2 f.parts f.meant k.stops; read = f.meant } };
-    only = λ s t used rest a m av. only s t used rest a m av }
+        record {
+          used = k.front ++ f.used;
+          parts = k.parts ∙ ap (λ (r : List Token). k.front ++ r) f.parts ∙ sym (append_assoc k.front f.used x.2);
+          meant = record { front = k.front; back = f.used; parts = refl; pass = k.pass; stops = head s x.1 x.0 f.used (skip_while test tokens) x.2 f.parts f.meant k.stops; read = f.meant };
+        };
+    only = λ s t used rest a m av. only s t used rest a m av;
+  }
     where
       head : (s t : S) (a : A) (used tokens rest : List Token) → tokens ≡ used ++ rest → p.means s used a t → next_is test tokens ≡ false → next_is test used ≡ false
       head s t a [] tokens rest e m k = refl
       head s t a (u ∷ used) tokens rest e m k = ap (next_is test) (sym e) ∙ k
+
       more : (s t : S) (a : A) (back rest : List Token) → p.means s back a t → next_is test back ≡ false → next_is test (back ++ rest) ≡ false
       more s t a [] rest m k = absurd (solid s t a m)
       more s t a (b ∷ back) rest m k = k
+
       only : (s t : S) (used rest : List Token) (a : A) → (behind test p).means s used a t → Avoids g rest → p.read s (skip_while test (used ++ rest)) ≡ Ok (a, t, rest)
       only s t used rest a m av =
           let e : skip_while test (used ++ rest) ≡ m.back ++ rest = ap (λ (l : List Token). skip_while test (l ++ rest)) m.parts ∙ ap (skip_while test) (append_assoc m.front m.back rest) ∙ skipped_is test m.front (m.back ++ rest) m.pass (more s t a m.back rest m.read m.stops) in

@@ -1,8 +1,8 @@
 -- Constants at a type (LLVM Language Reference, "Constants").
-use Rattle.std.specs.Prelude.{ℕ, suc, zero, Bool, true, false, ◌&&◌, ◌||◌, List, [], ◌∷◌, ◌==◌, bytes_eq, codes, slice_get, unwrap_or, Option, Some, None, Result, Ok, Err, if◌then◌else◌}
+use Rattle.std.specs.Prelude.{ℕ, suc, zero, List, [], ◌∷◌, bytes_eq, codes, slice_get, unwrap_or, Option, Some, None, Result, Ok, Err, if◌then◌else◌}
 use Rattle.no_lex.specs.declared.token.Token.{Token}
 use Rattle.no_lex.specs.declared.token.TokenKind.{TokenKind}
-use Rattle.no_lex.specs.declared.token.TokenKind.TheVariants.{Word, Integer, Global, Local, Group, Meta, Quoted, CMark, Sign, Label}
+use Rattle.no_lex.specs.declared.token.TokenKind.TheVariants.{Word, Integer, Quoted, CMark, Sign}
 use Rattle.no_ir.specs.declared.types.Ty.{Ty, out-Ty}
 use Rattle.no_ir.specs.declared.types.Ty.TheOpen.{Ty-F}
 use Rattle.no_ir.specs.declared.constant.Const.{Const}

@@ -1,21 +1,20 @@
 -- Addresses inside symbols (LLVM Language Reference, "Constant Expressions").
-use Rattle.std.specs.Prelude.{ℕ, ◌-◌, ◌*◌, ◌^◌, Bool, true, false, ◌&&◌, ◌||◌, List, [], ◌∷◌, ◌==◌, nat_le, nat_lt, drop, position, bytes_eq, codes, Option, Some, None, Result, Ok, Err, ℤ, pos, ◌-ℤ◌, if◌then◌else◌}
+use Rattle.std.specs.Prelude.{ℕ, ◌*◌, ◌^◌, Bool, ◌&&◌, ◌||◌, List, [], ◌∷◌, ◌==◌, nat_lt, drop, position, bytes_eq, codes, Option, Some, None, Result, Ok, Err, ℤ, pos, ◌-ℤ◌, if◌then◌else◌}
 use Rattle.no_lex.specs.declared.token.Token.{Token}
 use Rattle.no_lex.specs.declared.token.TokenKind.{TokenKind}
-use Rattle.no_lex.specs.declared.token.TokenKind.TheVariants.{Word, Integer, Global, Local, Group, Meta, Quoted, CMark, Sign, Label}
-use Rattle.no_ir.specs.declared.types.Ty.{Ty}
+use Rattle.no_lex.specs.declared.token.TokenKind.TheVariants.{Word, Integer, Global}
 use Rattle.no_ir.specs.declared.types.Ty.TheVariants as ty
 use Rattle.no_ir.specs.declared.constant.Symbol.{Symbol}
 use Rattle.no_ir.specs.declared.constant.Symbol.TheVariants as symbol
 use Rattle.no_ir.specs.declared.constant.Place.{Place}
 use Rattle.no_grammar.specs.declared.fault.Flaw.{Flaw}
-use Rattle.no_grammar.specs.declared.fault.Flaw.TheVariants.{Syntax, LeftOut}
+use Rattle.no_grammar.specs.declared.fault.Flaw.TheVariants.{Syntax}
 use Rattle.no_grammar.specs.declared.types.TypeHead.{TypeHead}
 use Rattle.no_grammar.specs.declared.types.TypeHead.TheVariants as head
 use Rattle.no_grammar.specs.Lists.{more_item}
 use Rattle.no_grammar.specs.Numbers.{integer_at}
 use Rattle.no_grammar.specs.Repeated.{repeat}
-use Rattle.no_grammar.specs.Rules.{Rule, plain, done, ◌>>=◌, checked}
+use Rattle.no_grammar.specs.Rules.{Rule, plain, done, ◌>>=◌}
 use Rattle.no_grammar.specs.Scope.{Meaning}
 use Rattle.no_grammar.specs.Spelled.{spelled, is_kind, is_word, a_word, a_sign}
 use Rattle.no_grammar.specs.Types.{a_type, word_type}

@@ -1,14 +1,19 @@
-ghost use Rattle.std.specs.Prelude.{◌≡◌, ◌<◌, ◌-◌, ◌^◌, ◌∷◌, [], codes, drop};
+ghost use Rattle.std.specs.Prelude.{ℕ, List, ◌≡◌, ◌<◌, ◌-◌, ◌^◌, ◌∷◌, [], codes, drop};
 ghost use Rattle.no_grammar.specs.Lists.{more_item, some_items, items};
 ghost use Rattle.no_grammar.specs.Repeated.{repeat_all, with_front};
-ghost use Rattle.no_grammar.specs.Rules.{Gives, valued, passed, plain, checked};
-ghost use Rattle.no_grammar.specs.Scope.{seen};
+ghost use Rattle.no_grammar.specs.Rules.{none, Good, Gives, valued, passed, plain, checked};
+ghost use Rattle.no_grammar.specs.Scope.{Meaning, seen};
 ghost use Rattle.no_grammar.specs.Types.{a_type, must_be};
 ghost use Rattle.no_values.specs.Constants.{named_in, flat_const, bracket_const, shape_of, element_in, fields_in, zero_at, null_at, word_at, word_const, integer_in, as_leaf, leaf_by, leaf_head, const_by, const_head, bracket_at, text_of, ptr_to_int, int_to_ptr, after_leaf, address, member, next_field, more_fields, some_fields, fields, array_const, struct_const, packed_const, after_head, a_const};
-ghost use Rattle.no_ir.specs.declared.types.Ty.{out-Ty};
+ghost use Rattle.no_ir.specs.declared.constant.Const.{Const};
+ghost use Rattle.no_ir.specs.declared.types.Ty.{Ty, out-Ty};
+ghost use Rattle.no_lex.specs.declared.token.Token.{Token};
 
 use crate::places::{a_place, begins_place, number_at, truth_at, width_of};
-use no_grammar::{Flaw, Scope, Stop, a_type, closes_list, fault_at, integer_at, is_kind, is_sign, same_type, skip_sign, skip_word, spelled, syntax, unescaped_inner};
+use no_grammar::{
+    Flaw, Scope, Stop, a_type, closes_list, fault_at, integer_at, is_kind, is_sign, same_type,
+    skip_sign, skip_word, spelled, syntax, unescaped_inner,
+};
 use no_ir::{Const, List, Ty};
 use no_lex::{Token, TokenKind};
 use sqlite_items::at;
@@ -177,7 +182,11 @@ fn const_by(shape: Shape, kind: TokenKind, spelling: &[u8]) -> Result<ConstHead,
     }
 }
 
-fn leaf_head<'b>(scope: &Scope, shape: Shape, tokens: &'b [Token]) -> Result<(LeafHead, &'b [Token]), Stop>
+fn leaf_head<'b>(
+    scope: &Scope,
+    shape: Shape,
+    tokens: &'b [Token],
+) -> Result<(LeafHead, &'b [Token]), Stop>
     ensures { Gives (λ x. valued x.0 x.1.now) result ((plain (leaf_head (seen scope.now).text shape)).read tt tokens.now) }
 {
     match tokens {
@@ -189,7 +198,11 @@ fn leaf_head<'b>(scope: &Scope, shape: Shape, tokens: &'b [Token]) -> Result<(Le
     }
 }
 
-fn const_head<'b>(scope: &Scope, shape: Shape, tokens: &'b [Token]) -> Result<(ConstHead, &'b [Token]), Stop>
+fn const_head<'b>(
+    scope: &Scope,
+    shape: Shape,
+    tokens: &'b [Token],
+) -> Result<(ConstHead, &'b [Token]), Stop>
     ensures { Gives (λ x. valued x.0 x.1.now) result ((plain (const_head (seen scope.now).text shape)).read tt tokens.now) }
 {
     match tokens {
@@ -203,7 +216,11 @@ fn const_head<'b>(scope: &Scope, shape: Shape, tokens: &'b [Token]) -> Result<(C
 
 // ---- constants without brackets
 
-fn text_of<'b>(alloc: Global, scope: &Scope, tokens: &'b [Token]) -> Result<(Const, &'b [Token]), Stop>
+fn text_of<'b>(
+    alloc: Global,
+    scope: &Scope,
+    tokens: &'b [Token],
+) -> Result<(Const, &'b [Token]), Stop>
     ensures { Gives (λ x. valued x.0 x.1.now) result ((plain (text_of (seen scope.now).text)).read tt tokens.now) }
 {
     match tokens {
@@ -216,15 +233,31 @@ fn text_of<'b>(alloc: Global, scope: &Scope, tokens: &'b [Token]) -> Result<(Con
 }
 
 /// A type that has to be this one.
-fn this_type<'b>(alloc: Global, scope: &Scope, want: &Ty, depth: u32, tokens: &'b [Token]) -> Result<&'b [Token], Stop>
+fn this_type<'b>(
+    alloc: Global,
+    scope: &Scope,
+    want: &Ty,
+    depth: u32,
+    tokens: &'b [Token],
+) -> Result<&'b [Token], Stop>
     ensures { Gives (λ rest. passed rest.now) result ((checked (a_type (seen scope.now) depth) (must_be want.now)).read tt tokens.now) }
 {
     let (found, rest) = a_type(alloc, scope, depth, tokens)?;
-    if same_type(&found, want) { Ok(rest) } else { Err(syntax(tokens)) }
+    if same_type(&found, want) {
+        Ok(rest)
+    } else {
+        Err(syntax(tokens))
+    }
 }
 
 #[tactic(auto, unfolding(crate::specs::Constants::ptr_to_int))]
-fn ptr_to_int<'b>(alloc: Global, scope: &Scope, ty: &Ty, depth: u32, tokens: &'b [Token]) -> Result<(Const, &'b [Token]), Stop>
+fn ptr_to_int<'b>(
+    alloc: Global,
+    scope: &Scope,
+    ty: &Ty,
+    depth: u32,
+    tokens: &'b [Token],
+) -> Result<(Const, &'b [Token]), Stop>
     ensures { Gives (λ x. valued x.0 x.1.now) result ((ptr_to_int (seen scope.now) depth ty.now).read tt tokens.now) }
 {
     let rest = skip_sign(scope.text, b"(", tokens)?;
@@ -249,7 +282,14 @@ fn int_to_ptr<'b>(scope: &Scope, tokens: &'b [Token]) -> Result<(Const, &'b [Tok
     Ok((Const::IntAsPtr(number), rest))
 }
 
-fn after_leaf<'b>(alloc: Global, scope: &Scope, ty: &Ty, depth: u32, head: LeafHead, tokens: &'b [Token]) -> Result<(Const, &'b [Token]), Stop>
+fn after_leaf<'b>(
+    alloc: Global,
+    scope: &Scope,
+    ty: &Ty,
+    depth: u32,
+    head: LeafHead,
+    tokens: &'b [Token],
+) -> Result<(Const, &'b [Token]), Stop>
     ensures { Gives (λ x. valued x.0 x.1.now) result ((after_leaf (seen scope.now) depth ty.now head).read tt tokens.now) }
 {
     match head {
@@ -262,7 +302,12 @@ fn after_leaf<'b>(alloc: Global, scope: &Scope, ty: &Ty, depth: u32, head: LeafH
 }
 
 #[tactic(auto, unfolding(crate::specs::Constants::address))]
-fn address<'b>(alloc: Global, scope: &Scope, depth: u32, tokens: &'b [Token]) -> Result<(Const, &'b [Token]), Stop>
+fn address<'b>(
+    alloc: Global,
+    scope: &Scope,
+    depth: u32,
+    tokens: &'b [Token],
+) -> Result<(Const, &'b [Token]), Stop>
     ensures { Gives (λ x. valued x.0 x.1.now) result ((address (seen scope.now) depth).read tt tokens.now) }
 {
     let (place, rest) = a_place(alloc, scope, depth, tokens)?;
@@ -270,19 +315,42 @@ fn address<'b>(alloc: Global, scope: &Scope, depth: u32, tokens: &'b [Token]) ->
 }
 
 /// A constant that isn't an address, in which no bracket may stand.
-fn flat<'b>(alloc: Global, scope: &Scope, ty: &Ty, tokens: &'b [Token]) -> Result<(Const, &'b [Token]), Stop>
+fn flat<'b>(
+    alloc: Global,
+    scope: &Scope,
+    ty: &Ty,
+    tokens: &'b [Token],
+) -> Result<(Const, &'b [Token]), Stop>
     ensures { Gives (λ x. valued x.0 x.1.now) result ((flat_const (seen scope.now) ty.now).read tt tokens.now) }
 {
     let (head, rest) = leaf_head(scope, shape_of(resolved(&*scope.types, &*ty)), tokens)?;
     after_leaf(alloc, scope, ty, 0, head, rest)
 }
 
+/// Constants are read exactly: what was read is meant by the tokens that were taken, and what tokens mean is read from them.
+#[tactic(auto, using(crate::proofs::ConstLaws::const_good))]
+pub fn constants_are_exact()
+    ensures { (m : Meaning) (depth : ℕ) (ty : Ty) → Good none (a_const m depth ty) }
+{}
+
+/// At most one constant is meant by a list of tokens at a type.
+#[tactic(auto, using(crate::proofs::ConstLaws::one_const))]
+pub fn at_most_one_constant()
+    ensures { (m : Meaning) (depth : ℕ) (ty : Ty) (tokens : List Token) (a b : Const) → (a_const m depth ty).means tt tokens a tt → (a_const m depth ty).means tt tokens b tt → a ≡ b }
+{}
+
 // ---- lists
 
 /// A constant at a type, in which so many brackets may stand one in another.
 #[cycle(constants)]
 #[tactic(auto, using(crate::proofs::Depths::const_none, crate::proofs::Depths::const_more, crate::proofs::Depths::const_place))]
-pub fn a_const<'b>(alloc: Global, scope: &Scope, ty: &Ty, depth: u32, tokens: &'b [Token]) -> Result<(Const, &'b [Token]), Stop>
+pub fn a_const<'b>(
+    alloc: Global,
+    scope: &Scope,
+    ty: &Ty,
+    depth: u32,
+    tokens: &'b [Token],
+) -> Result<(Const, &'b [Token]), Stop>
     ensures { Gives (λ x. valued x.0 x.1.now) result ((a_const (seen scope.now) depth ty.now).read tt tokens.now) }
 {
     match tokens {
@@ -293,7 +361,13 @@ pub fn a_const<'b>(alloc: Global, scope: &Scope, ty: &Ty, depth: u32, tokens: &'
 }
 
 #[cycle(constants)]
-fn with_brackets<'b>(alloc: Global, scope: &Scope, ty: &Ty, depth: u32, tokens: &'b [Token]) -> Result<(Const, &'b [Token]), Stop>
+fn with_brackets<'b>(
+    alloc: Global,
+    scope: &Scope,
+    ty: &Ty,
+    depth: u32,
+    tokens: &'b [Token],
+) -> Result<(Const, &'b [Token]), Stop>
     requires { depth < 2 ^ 32 - 1 }
     ensures { Gives (λ x. valued x.0 x.1.now) result ((bracket_const (seen scope.now) depth (a_const (seen scope.now) depth) ty.now).read tt tokens.now) }
 {
@@ -309,7 +383,13 @@ fn with_brackets<'b>(alloc: Global, scope: &Scope, ty: &Ty, depth: u32, tokens: 
 
 #[cycle(constants)]
 #[tactic(auto, unfolding(crate::specs::Constants::array_const))]
-fn array_const<'b>(alloc: Global, scope: &Scope, ty: &Ty, depth: u32, tokens: &'b [Token]) -> Result<(Const, &'b [Token]), Stop>
+fn array_const<'b>(
+    alloc: Global,
+    scope: &Scope,
+    ty: &Ty,
+    depth: u32,
+    tokens: &'b [Token],
+) -> Result<(Const, &'b [Token]), Stop>
     ensures { Gives (λ x. valued x.0 x.1.now) result ((array_const (seen scope.now) depth (a_const (seen scope.now) depth) (element_in ty.now (out-Ty ty.now))).read tt tokens.now) }
 {
     let element = element_of(ty);
@@ -338,7 +418,13 @@ fn fields_of(ty: &Ty) -> &[Ty]
 /// The elements of an array, and its closing bracket.
 #[cycle(constants)]
 #[tactic(auto, unfolding(no_grammar::specs::Lists::items, no_grammar::specs::Lists::no_items, no_grammar::specs::Lists::some_items))]
-fn elements<'b>(alloc: Global, scope: &Scope, element: &Ty, depth: u32, tokens: &'b [Token]) -> Result<(List<Const>, &'b [Token]), Stop>
+fn elements<'b>(
+    alloc: Global,
+    scope: &Scope,
+    element: &Ty,
+    depth: u32,
+    tokens: &'b [Token],
+) -> Result<(List<Const>, &'b [Token]), Stop>
     ensures { Gives (λ x. valued x.0 x.1.now) result ((items (seen scope.now).text (codes "]") (member (seen scope.now) depth (a_const (seen scope.now) depth) element.now)).read tt tokens.now) }
 {
     match tokens {
@@ -349,7 +435,13 @@ fn elements<'b>(alloc: Global, scope: &Scope, element: &Ty, depth: u32, tokens: 
 
 #[cycle(constants)]
 #[tactic(auto, unfolding(no_grammar::specs::Lists::some_items))]
-fn some_elements<'b>(alloc: Global, scope: &Scope, element: &Ty, depth: u32, tokens: &'b [Token]) -> Result<(List<Const>, &'b [Token]), Stop>
+fn some_elements<'b>(
+    alloc: Global,
+    scope: &Scope,
+    element: &Ty,
+    depth: u32,
+    tokens: &'b [Token],
+) -> Result<(List<Const>, &'b [Token]), Stop>
     ensures { Gives (λ x. valued x.0 x.1.now) result ((some_items (seen scope.now).text (codes "]") (member (seen scope.now) depth (a_const (seen scope.now) depth) element.now)).read tt tokens.now) }
 {
     let (first, rest) = member(alloc, scope, element, depth, tokens)?;
@@ -357,7 +449,14 @@ fn some_elements<'b>(alloc: Global, scope: &Scope, element: &Ty, depth: u32, tok
 }
 
 #[cycle(constants)]
-fn more_elements<'b>(alloc: Global, scope: &Scope, element: &Ty, depth: u32, first: Const, tokens: &'b [Token]) -> Result<(List<Const>, &'b [Token]), Stop>
+fn more_elements<'b>(
+    alloc: Global,
+    scope: &Scope,
+    element: &Ty,
+    depth: u32,
+    first: Const,
+    tokens: &'b [Token],
+) -> Result<(List<Const>, &'b [Token]), Stop>
     ensures { Gives (λ x. valued x.0 x.1.now) result (with_front (first ∷ []) (repeat_all (more_item (seen scope.now).text (codes "]") (member (seen scope.now) depth (a_const (seen scope.now) depth) element.now)) tt tokens.now)) }
 {
     let mut all = List::new(alloc);
@@ -377,7 +476,13 @@ fn more_elements<'b>(alloc: Global, scope: &Scope, element: &Ty, depth: u32, fir
 
 #[cycle(constants)]
 #[tactic(auto, unfolding(no_grammar::specs::Lists::more_item))]
-fn more_element<'b>(alloc: Global, scope: &Scope, element: &Ty, depth: u32, tokens: &'b [Token]) -> Result<(Option<Const>, &'b [Token]), Stop>
+fn more_element<'b>(
+    alloc: Global,
+    scope: &Scope,
+    element: &Ty,
+    depth: u32,
+    tokens: &'b [Token],
+) -> Result<(Option<Const>, &'b [Token]), Stop>
     ensures { Gives (λ x. valued x.0 x.1.now) result ((more_item (seen scope.now).text (codes "]") (member (seen scope.now) depth (a_const (seen scope.now) depth) element.now)).read tt tokens.now) }
 {
     let (closes, rest) = closes_list(scope.text, b"]", tokens)?;
@@ -391,7 +496,13 @@ fn more_element<'b>(alloc: Global, scope: &Scope, element: &Ty, depth: u32, toke
 /// A member: its type, which has to be this one, and the constant.
 #[cycle(constants)]
 #[tactic(auto, unfolding(crate::specs::Constants::member))]
-fn member<'b>(alloc: Global, scope: &Scope, ty: &Ty, depth: u32, tokens: &'b [Token]) -> Result<(Const, &'b [Token]), Stop>
+fn member<'b>(
+    alloc: Global,
+    scope: &Scope,
+    ty: &Ty,
+    depth: u32,
+    tokens: &'b [Token],
+) -> Result<(Const, &'b [Token]), Stop>
     ensures { Gives (λ x. valued x.0 x.1.now) result ((member (seen scope.now) depth (a_const (seen scope.now) depth) ty.now).read tt tokens.now) }
 {
     let rest = this_type(alloc, scope, ty, depth, tokens)?;
@@ -400,7 +511,13 @@ fn member<'b>(alloc: Global, scope: &Scope, ty: &Ty, depth: u32, tokens: &'b [To
 
 #[cycle(constants)]
 #[tactic(auto, unfolding(crate::specs::Constants::struct_const))]
-fn struct_const<'b>(alloc: Global, scope: &Scope, ty: &Ty, depth: u32, tokens: &'b [Token]) -> Result<(Const, &'b [Token]), Stop>
+fn struct_const<'b>(
+    alloc: Global,
+    scope: &Scope,
+    ty: &Ty,
+    depth: u32,
+    tokens: &'b [Token],
+) -> Result<(Const, &'b [Token]), Stop>
     ensures { Gives (λ x. valued x.0 x.1.now) result ((struct_const (seen scope.now) depth (a_const (seen scope.now) depth) (fields_in (out-Ty ty.now))).read tt tokens.now) }
 {
     let (all, rest) = fields(alloc, scope, fields_of(ty), depth, tokens)?;
@@ -409,7 +526,13 @@ fn struct_const<'b>(alloc: Global, scope: &Scope, ty: &Ty, depth: u32, tokens: &
 
 #[cycle(constants)]
 #[tactic(auto, unfolding(crate::specs::Constants::packed_const))]
-fn packed_const<'b>(alloc: Global, scope: &Scope, ty: &Ty, depth: u32, tokens: &'b [Token]) -> Result<(Const, &'b [Token]), Stop>
+fn packed_const<'b>(
+    alloc: Global,
+    scope: &Scope,
+    ty: &Ty,
+    depth: u32,
+    tokens: &'b [Token],
+) -> Result<(Const, &'b [Token]), Stop>
     ensures { Gives (λ x. valued x.0 x.1.now) result ((packed_const (seen scope.now) depth (a_const (seen scope.now) depth) (fields_in (out-Ty ty.now))).read tt tokens.now) }
 {
     let rest = skip_sign(scope.text, b"{", tokens)?;
@@ -421,7 +544,13 @@ fn packed_const<'b>(alloc: Global, scope: &Scope, ty: &Ty, depth: u32, tokens: &
 /// The fields of a struct, and its closing bracket.
 #[cycle(constants)]
 #[tactic(auto, unfolding(crate::specs::Constants::fields, crate::specs::Constants::no_fields, crate::specs::Constants::some_fields))]
-fn fields<'b>(alloc: Global, scope: &Scope, types: &[Ty], depth: u32, tokens: &'b [Token]) -> Result<(List<Const>, &'b [Token]), Stop>
+fn fields<'b>(
+    alloc: Global,
+    scope: &Scope,
+    types: &[Ty],
+    depth: u32,
+    tokens: &'b [Token],
+) -> Result<(List<Const>, &'b [Token]), Stop>
     ensures { Gives (λ x. valued x.0 x.1.now) result ((fields (seen scope.now) depth (a_const (seen scope.now) depth) (codes "}") types.now).read tt tokens.now) }
 {
     match tokens {
@@ -432,7 +561,13 @@ fn fields<'b>(alloc: Global, scope: &Scope, types: &[Ty], depth: u32, tokens: &'
 
 #[cycle(constants)]
 #[tactic(auto, unfolding(crate::specs::Constants::some_fields))]
-fn some_fields<'b>(alloc: Global, scope: &Scope, types: &[Ty], depth: u32, tokens: &'b [Token]) -> Result<(List<Const>, &'b [Token]), Stop>
+fn some_fields<'b>(
+    alloc: Global,
+    scope: &Scope,
+    types: &[Ty],
+    depth: u32,
+    tokens: &'b [Token],
+) -> Result<(List<Const>, &'b [Token]), Stop>
     ensures { Gives (λ x. valued x.0 x.1.now) result ((some_fields (seen scope.now) depth (a_const (seen scope.now) depth) (codes "}") types.now).read tt tokens.now) }
 {
     match types {
@@ -445,7 +580,12 @@ fn some_fields<'b>(alloc: Global, scope: &Scope, types: &[Ty], depth: u32, token
 }
 
 /// A member past the last field: its type is refused.
-fn past<'b, T: Drop>(alloc: Global, scope: &Scope, depth: u32, tokens: &'b [Token]) -> Result<(T, &'b [Token]), Stop>
+fn past<'b, T: Drop>(
+    alloc: Global,
+    scope: &Scope,
+    depth: u32,
+    tokens: &'b [Token],
+) -> Result<(T, &'b [Token]), Stop>
     ensures { Gives (λ x. valued x.0 x.1.now) result ((checked (a_type (seen scope.now) depth) (λ _. Err Flaw.Syntax)).read tt tokens.now) }
 {
     let (_, _) = a_type(alloc, scope, depth, tokens)?;
@@ -454,7 +594,14 @@ fn past<'b, T: Drop>(alloc: Global, scope: &Scope, depth: u32, tokens: &'b [Toke
 
 /// The fields behind the first.
 #[cycle(constants)]
-fn more_fields<'b>(alloc: Global, scope: &Scope, types: &[Ty], depth: u32, first: Const, tokens: &'b [Token]) -> Result<(List<Const>, &'b [Token]), Stop>
+fn more_fields<'b>(
+    alloc: Global,
+    scope: &Scope,
+    types: &[Ty],
+    depth: u32,
+    first: Const,
+    tokens: &'b [Token],
+) -> Result<(List<Const>, &'b [Token]), Stop>
     ensures { Gives (λ x. valued x.0 x.1.now) result (with_front (first ∷ []) ((more_fields (seen scope.now) depth (a_const (seen scope.now) depth) (codes "}") types.now).read tt tokens.now)) }
 {
     let mut all = List::new(alloc);
@@ -485,7 +632,13 @@ fn behind_first(types: &[Ty]) -> &[Ty]
 
 #[cycle(constants)]
 #[tactic(auto, unfolding(crate::specs::Constants::next_field))]
-fn next_field<'b>(alloc: Global, scope: &Scope, types: &[Ty], depth: u32, tokens: &'b [Token]) -> Result<(Option<Const>, &'b [Token]), Stop>
+fn next_field<'b>(
+    alloc: Global,
+    scope: &Scope,
+    types: &[Ty],
+    depth: u32,
+    tokens: &'b [Token],
+) -> Result<(Option<Const>, &'b [Token]), Stop>
     ensures { Gives (λ x. valued x.0 x.1.now) result ((next_field (seen scope.now) depth (a_const (seen scope.now) depth) (codes "}") types.now).read tt tokens.now) }
 {
     let (closes, rest) = closes_list(scope.text, b"}", tokens)?;

@@ -4,5 +4,10 @@
 mod constants;
 mod places;
 
-pub use constants::{ConstHead, LeafHead, Shape, a_const};
+pub use constants::{
+    ConstHead, LeafHead, Shape, a_const, at_most_one_constant, constants_are_exact,
+};
 pub use places::{PlaceHead, a_place, begins_place, number_at, skip_flags, symbol, width_of};
+
+#[cfg(test)]
+mod tests;

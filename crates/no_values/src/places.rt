@@ -10,7 +10,10 @@ ghost use Rattle.no_grammar.specs.Unescaped.{name_of};
 ghost use Rattle.no_values.specs.Places.{symbol_named, symbol_of, int_width, width_of, truth_at, number_by, number_at, with_sign, is_flag, an_index, indices, gep_parts, place_head, after_place_head, a_place, begins_place};
 ghost use Rattle.no_values.specs.Skipped.{skip_while};
 
-use no_grammar::{Flaw, Scope, Stop, a_type, closes_list, fault_at, integer_at, is_kind, is_word, name_of, skip_sign, skip_word, spelled, syntax, word_type, TypeHead};
+use no_grammar::{
+    Flaw, Scope, Stop, TypeHead, a_type, closes_list, fault_at, integer_at, is_kind, is_word,
+    name_of, skip_sign, skip_word, spelled, syntax, word_type,
+};
 use no_ir::{Bytes, List, NoMemory, Place, Symbol, Ty};
 use no_lex::{Token, TokenKind};
 use std::alloc::Global;
@@ -58,7 +61,11 @@ fn body_of(spelling: &[u8]) -> &[u8]
 }
 
 /// The symbol that a name of a global or a function means.
-pub fn symbol<'b>(alloc: Global, scope: &Scope, tokens: &'b [Token]) -> Result<(Symbol, &'b [Token]), Stop>
+pub fn symbol<'b>(
+    alloc: Global,
+    scope: &Scope,
+    tokens: &'b [Token],
+) -> Result<(Symbol, &'b [Token]), Stop>
     ensures { Gives (λ x. valued x.0 x.1.now) result ((plain (symbol_of (seen scope.now))).read tt tokens.now) }
 {
     match tokens {
@@ -85,7 +92,9 @@ pub fn width_of<'b>(text: &[u8], tokens: &'b [Token]) -> Result<(u8, &'b [Token]
     ensures { Gives (λ x. valued x.0 x.1.now) result ((plain (width_of text.now)).read tt tokens.now) }
 {
     match tokens {
-        [token, rest @ ..] if is_kind(TokenKind::Word, token) => match int_width(spelled(text, token)) {
+        [token, rest @ ..] if is_kind(TokenKind::Word, token) => match int_width(spelled(
+            text, token,
+        )) {
             Ok(width) => Ok((width, rest)),
             Err(flaw) => Err(fault_at(flaw, tokens)),
         },
@@ -116,7 +125,11 @@ fn number_by(width: u8, kind: TokenKind, spelling: &[u8]) -> Result<u64, Flaw>
 }
 
 /// A number written at an integer type of this width.
-pub fn number_at<'b>(text: &[u8], width: u8, tokens: &'b [Token]) -> Result<(u64, &'b [Token]), Stop>
+pub fn number_at<'b>(
+    text: &[u8],
+    width: u8,
+    tokens: &'b [Token],
+) -> Result<(u64, &'b [Token]), Stop>
     ensures is { Gives (λ x. valued x.0 x.1.now) result ((plain (number_at text.now width)).read tt tokens.now) }
     ensures below { IfOk result (λ x. (0 < width) × (width ≤ 64) × (x.0 < 2 ^ width)) }
 {
@@ -136,7 +149,11 @@ fn with_sign(width: u8, number: u64) -> i64
     requires below { number < 2 ^ width }
     ensures { result ≡ with_sign width number }
 {
-    let most = if width == 64 { u64::MAX } else { (1u64 << width) - 1 };
+    let most = if width == 64 {
+        u64::MAX
+    } else {
+        (1u64 << width) - 1
+    };
     let gap = most - number;
     if number <= gap {
         number as i64
@@ -169,7 +186,12 @@ fn more_index<'b>(scope: &Scope, tokens: &'b [Token]) -> Result<(Option<i64>, &'
     Ok((Some(index), rest))
 }
 
-fn more_indices<'b>(alloc: Global, scope: &Scope, first: i64, tokens: &'b [Token]) -> Result<(List<i64>, &'b [Token]), Stop>
+fn more_indices<'b>(
+    alloc: Global,
+    scope: &Scope,
+    first: i64,
+    tokens: &'b [Token],
+) -> Result<(List<i64>, &'b [Token]), Stop>
     ensures { Gives (λ x. valued x.0 x.1.now) result (with_front (first ∷ []) (repeat_all (more_item (seen scope.now).text (codes ")") (an_index (seen scope.now))) tt tokens.now)) }
 {
     let mut all = List::new(alloc);
@@ -189,7 +211,11 @@ fn more_indices<'b>(alloc: Global, scope: &Scope, first: i64, tokens: &'b [Token
 
 /// At least one index, and the closing bracket.
 #[tactic(auto, unfolding(crate::specs::Places::indices))]
-fn indices<'b>(alloc: Global, scope: &Scope, tokens: &'b [Token]) -> Result<(List<i64>, &'b [Token]), Stop>
+fn indices<'b>(
+    alloc: Global,
+    scope: &Scope,
+    tokens: &'b [Token],
+) -> Result<(List<i64>, &'b [Token]), Stop>
     ensures { Gives (λ x. valued x.0 x.1.now) result ((indices (seen scope.now)).read tt tokens.now) }
 {
     let (first, rest) = an_index(scope, tokens)?;
@@ -198,7 +224,12 @@ fn indices<'b>(alloc: Global, scope: &Scope, tokens: &'b [Token]) -> Result<(Lis
 
 /// A constant `getelementptr` behind its flags.
 #[tactic(auto, unfolding(crate::specs::Places::gep_parts))]
-fn gep_parts<'b>(alloc: Global, scope: &Scope, depth: u32, tokens: &'b [Token]) -> Result<(Place, &'b [Token]), Stop>
+fn gep_parts<'b>(
+    alloc: Global,
+    scope: &Scope,
+    depth: u32,
+    tokens: &'b [Token],
+) -> Result<(Place, &'b [Token]), Stop>
     ensures { Gives (λ x. valued x.0 x.1.now) result ((gep_parts (seen scope.now) depth).read tt tokens.now) }
 {
     let rest = skip_sign(scope.text, b"(", tokens)?;
@@ -221,7 +252,9 @@ fn gep_parts<'b>(alloc: Global, scope: &Scope, depth: u32, tokens: &'b [Token]) 
 fn is_flag(text: &[u8], token: &Token) -> bool
     ensures { result ≡ is_flag text.now token.now }
 {
-    is_word(text, b"inbounds", token) || is_word(text, b"nusw", token) || is_word(text, b"nuw", token)
+    is_word(text, b"inbounds", token)
+        || is_word(text, b"nusw", token)
+        || is_word(text, b"nuw", token)
 }
 
 /// Behind the flags of a `getelementptr`.
@@ -238,7 +271,11 @@ pub fn skip_flags<'b>(text: &[u8], tokens: &'b [Token]) -> &'b [Token]
     rest
 }
 
-fn place_head<'b>(alloc: Global, scope: &Scope, tokens: &'b [Token]) -> Result<(PlaceHead, &'b [Token]), Stop>
+fn place_head<'b>(
+    alloc: Global,
+    scope: &Scope,
+    tokens: &'b [Token],
+) -> Result<(PlaceHead, &'b [Token]), Stop>
     ensures { Gives (λ x. valued x.0 x.1.now) result ((plain (place_head (seen scope.now))).read tt tokens.now) }
 {
     match tokens {
@@ -246,14 +283,22 @@ fn place_head<'b>(alloc: Global, scope: &Scope, tokens: &'b [Token]) -> Result<(
             let symbol = symbol_named(alloc, scope, body_of(spelled(scope.text, token)))?;
             Ok((PlaceHead::Bare(symbol), rest))
         }
-        [token, rest @ ..] if is_word(scope.text, b"getelementptr", token) => Ok((PlaceHead::Gep, rest)),
+        [token, rest @ ..] if is_word(scope.text, b"getelementptr", token) => Ok((
+            PlaceHead::Gep,
+            rest,
+        )),
         _ => Err(syntax(tokens)),
     }
 }
 
 /// A name of a global or a function, or a constant `getelementptr`.
 #[tactic(auto, unfolding(crate::specs::Places::a_place))]
-pub fn a_place<'b>(alloc: Global, scope: &Scope, depth: u32, tokens: &'b [Token]) -> Result<(Place, &'b [Token]), Stop>
+pub fn a_place<'b>(
+    alloc: Global,
+    scope: &Scope,
+    depth: u32,
+    tokens: &'b [Token],
+) -> Result<(Place, &'b [Token]), Stop>
     ensures { Gives (λ x. valued x.0 x.1.now) result ((a_place (seen scope.now) depth).read tt tokens.now) }
 {
     let (head, rest) = place_head(alloc, scope, tokens)?;

@@ -1,4 +1,3 @@
-use Rattle.std.proofs.Common.{◌≡◌, codes}
 use Rattle.std.proofs.lemmas.Result.{err_from_is_err_and}
 use Rattle.no_grammar.specs.Scope.{seen}
 use Rattle.no_values.proofs.ConstLaws.{elements_fail, elements_stop, elements_fall, elements_go, fields_fail, fields_stop, fields_fall, fields_go}

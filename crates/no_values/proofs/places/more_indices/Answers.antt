@@ -1,4 +1,4 @@
-use Rattle.std.proofs.Common.{◌≡◌, ℤ, List, [], ◌∷◌, ap, subst, IfSome, sym, ◌∙◌, codes, Result, Option, Some}
+use Rattle.std.proofs.Common.{◌≡◌, ℤ, [], ◌∷◌, ap, subst, IfSome, ◌∙◌, codes, Option}
 use Rattle.std.proofs.lemmas.Result.{err_from_is_err_and}
 use Rattle.std.proofs.lemmas.Int.{to_z-of_z}
 use mir.Syntax.{w64}
@@ -16,14 +16,14 @@ returns-in_err-item c =
     let m = seen c.args.scope.now in
     let e : to_z w64 (of_z w64 c.args.first) ≡ c.args.first = to_z-of_z w64 c.args.first (record { sfits = c.ranges.first.sfits }) in
     rw (p.1, p.2) (indices_fail m c.in_err-item.field-0.0 c.loop-all.all c.loop-all.rest.now _ c.in_err-item.ensures.is
-        (c.loop-all.invariant ∙ ap (λ (z : ℤ). with_front (z ∷ []) (repeat_all (more_item m.text (codes ")") (an_index m)) tt c.args.tokens.now)) e))
+    (c.loop-all.invariant ∙ ap (λ (z : ℤ). with_front (z ∷ []) (repeat_all (more_item m.text (codes ")") (an_index m)) tt c.args.tokens.now)) e))
 
 pub returns-in-None : goal.returns-in-None
 returns-in-None c =
     let m = seen c.args.scope.now in
     let e : to_z w64 (of_z w64 c.args.first) ≡ c.args.first = to_z-of_z w64 c.args.first (record { sfits = c.ranges.first.sfits }) in
     indices_stop m c.loop-all.all c.loop-all.rest.now c.in_ok-item.after.now c.in_ok-item.item _ c.in_ok-item.ensures.is c.in-None.is
-        (c.loop-all.invariant ∙ ap (λ (z : ℤ). with_front (z ∷ []) (repeat_all (more_item m.text (codes ")") (an_index m)) tt c.args.tokens.now)) e)
+    (c.loop-all.invariant ∙ ap (λ (z : ℤ). with_front (z ∷ []) (repeat_all (more_item m.text (codes ")") (an_index m)) tt c.args.tokens.now)) e)
 
 pub loop-all-smaller : goal.loop-all-smaller
 loop-all-smaller c = indices_fall (seen c.args.scope.now) c.loop-all.rest.now c.in_ok-item.after.now c.in_ok-item.item c.in_ok-item.ensures.is
