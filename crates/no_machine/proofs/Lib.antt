@@ -1,0 +1,5 @@
+pub mod Accesses
+pub mod Widths
+pub mod Offsets
+pub mod Moved
+pub mod Stepping

@@ -1,0 +1,5 @@
+pub mod Counted
+pub mod Acted
+pub mod Numbers
+pub mod Held
+pub mod Running
