@@ -1,9 +1,8 @@
 ghost use Rattle.std.specs.Prelude.{◌≤◌, vec_len, IfOk};
 
+use no_ports::{FileAnswer, Files};
 use std::fs::{self, File};
 use std::io::{self, Read};
-
-use no_ports::{FileAnswer, Files};
 
 /// The system's files. What they hold is not told.
 #[derive(Drop)]

@@ -7,17 +7,14 @@ mod host_files;
 mod std_sink;
 mod std_source;
 
-use std::env;
-use std::io;
-use std::marker::Brand;
-use std::process::ExitCode;
-use std::sync::ledger::{Blank, Ledger};
-
+use host_files::HostFiles;
 use no_app::{Outcome, Steps, command, status};
 use no_ir::Text;
 use no_ports::{ClosedSpawner, ClosedWire};
-
-use host_files::HostFiles;
+use std::marker::Brand;
+use std::process::ExitCode;
+use std::sync::ledger::{Blank, Ledger};
+use std::{env, io};
 use std_sink::StdSink;
 use std_source::StdSource;
 
@@ -54,9 +51,18 @@ fn run<L: Ledger>(rt: &HostRuntime, words: &[Text], blank: Blank) -> Outcome
     )
 }
 
-/// Words that cannot be read are no command's words, as none are.
+/// Words that are not UTF-8 are no command's words, as none are.
 fn main(rt: HostRuntime) -> ExitCode {
-    let words = words(&rt).unwrap_or(Vec::new(rt.alloc()));
+    let words = match words(&rt) {
+        Ok(words) => words,
+        Err(error) => {
+            if matches!(error.kind(), io::ErrorKind::OutOfMemory) {
+                let _ = rt.eprintln("nativeoff: no memory");
+                return ExitCode::from(status(&Outcome::NoMemory));
+            }
+            Vec::new(rt.alloc())
+        }
+    };
     let outcome = run::<Brand>(&rt, &words, Blank::new(2));
     ExitCode::from(status(&outcome))
 }

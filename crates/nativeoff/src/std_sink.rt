@@ -1,6 +1,5 @@
-use std::io::Write;
-
 use no_ports::{Gave, Sink};
+use std::io::Write;
 
 /// A writer as a sink. What it holds is not told.
 #[derive(Drop)]

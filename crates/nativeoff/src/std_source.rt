@@ -1,6 +1,5 @@
-use std::io::Read;
-
 use no_ports::{Source, Took};
+use std::io::Read;
 
 /// A reader as a source. What is left is not told.
 #[derive(Drop)]

@@ -1,5 +1,5 @@
 -- The whole line of an outcome is told.
-use Rattle.std.proofs.Common.{◌≡◌, ℕ, ◌≤◌, List, length, take, sym, subst, Option, inl, arith}
+use Rattle.std.proofs.Common.{ℕ, List, length, sym, subst, Option, inl, arith}
 use Rattle.std.proofs.Math.Seq.{take-length}
 use Rattle.no_ports.specs.Meanings.{Adds, AddsPrefix}
 use Rattle.no_app.specs.declared.outcome.Outcome.{Outcome}

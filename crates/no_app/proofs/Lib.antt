@@ -5,3 +5,4 @@ pub mod Stepping
 pub mod Jobs
 pub mod LastLines
 pub mod Outcomes
+pub mod Registers

@@ -1,6 +1,6 @@
 -- Cutting a text at a byte, and its lines.
-use Rattle.std.proofs.Common.{◌≡◌, ◌≢◌, ℕ, zero, suc, ◌+◌, ◌<◌, ◌≤◌, Bool, true, false, ◌==◌, List, [], ◌∷◌, ◌++◌, length, take, drop, refl, sym, ap, ◌∙◌, append_assoc, append-nil, inl, inr, Option, Some, None, filter, arith}
-use Rattle.std.specs.Prelude.{option_map, if◌then◌else◌}
+use Rattle.std.proofs.Common.{◌≡◌, ◌≢◌, ℕ, ◌<◌, ◌≤◌, true, false, ◌==◌, List, [], ◌∷◌, ◌++◌, length, refl, sym, ap, ◌∙◌, append_assoc, append-nil, inl, inr, Option, Some, None, filter, arith}
+use Rattle.std.specs.Prelude.{option_map}
 use Rattle.std.proofs.lemmas.Bool.{cases_Bool}
 use Rattle.no_model.specs.Reading.{cut, split, glue, is_full, lines_of}
 
@@ -61,15 +61,17 @@ empty_of_length (x ∷ xs) none = absurd (omega arith)
 pub split_none : (b : ℕ) (xs : List ℕ) → cut b xs ≡ None → split b xs ≡ xs ∷ []
 split_none b [] e = refl
 split_none b (x ∷ xs) e = elim (cases_Bool (x == b)) [
-    inl same ↦ absurd (some_none _ (rw same at e))
-  | inr other ↦ rw other (glued x xs [] (split b xs) (split_none b xs (longer_none x (cut b xs) (rw other at e)))) ]
+  | inl same ↦ absurd (some_none _ (rw same at e))
+  | inr other ↦ rw other (glued x xs [] (split b xs) (split_none b xs (longer_none x (cut b xs) (rw other at e))))
+]
 
 -- the first line, and those of the rest
 pub split_some : (b : ℕ) (xs : List ℕ) (p : Pieces) → cut b xs ≡ Some p → split b xs ≡ p.0 ∷ split b p.1
 split_some b [] p e = cc
 split_some b (x ∷ xs) p e = elim (cases_Bool (x == b)) [
-    inl same ↦ rw same (ap (λ (r : Pieces). r.0 ∷ split b r.1) (some_same _ p (rw same at e)))
-  | inr other ↦ rw other (later (cut b xs) (split_some b xs) (rw other at e)) ]
+  | inl same ↦ rw same (ap (λ (r : Pieces). r.0 ∷ split b r.1) (some_same _ p (rw same at e)))
+  | inr other ↦ rw other (later (cut b xs) (split_some b xs) (rw other at e))
+]
   where
     later : (o : Option Pieces) → ((q : Pieces) → o ≡ Some q → split b xs ≡ q.0 ∷ split b q.1)
         → longer x o ≡ Some p → glue x (split b xs) ≡ p.0 ∷ split b p.1

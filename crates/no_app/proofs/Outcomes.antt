@@ -1,21 +1,18 @@
 -- Outcomes of a run, of a text and of a file.
-use Rattle.std.proofs.Common.{◌≡◌, ◌≢◌, ℕ, ◌+◌, ◌-◌, ◌≤◌, ◌<◌, List, length, take, refl, sym, ap, subst, ◌∙◌, Option, Some, None, arith, inl, inr, ◌⊎◌, true, false, lit<}
-use Rattle.std.specs.Prelude.{IfSome, nat_le, if◌then◌else◌}
+use Rattle.std.proofs.Common.{◌≡◌, ℕ, ◌≤◌, List, length, take, refl, sym, ap, subst, ◌∙◌, Option, Some, None, arith, inl, inr, true, false, lit<}
+use Rattle.std.specs.Prelude.{IfSome, nat_le}
 use Rattle.std.proofs.lemmas.List.{take_all, length-take-le}
 use Rattle.std.proofs.lemmas.Bool.{cases_Bool, leb-true, leb-false, lt-leb}
-use Rattle.std.proofs.Math.Seq.{take-length}
-use Rattle.no_ports.specs.Meanings.{Rose, Adds, AddsPrefix}
-use Rattle.no_ir.specs.declared.ending.End.{End}
+use Rattle.no_ports.specs.Meanings.{Rose}
 use Rattle.no_ir.specs.declared.ending.End.TheVariants as end
 use Rattle.no_ir.specs.declared.ending.Trap.{Trap}
 use Rattle.no_ir.specs.declared.function.Module.{Module}
 use Rattle.no_app.specs.declared.outcome.ModuleFault.{ModuleFault}
 use Rattle.no_model.specs.Reading.{module_of}
 use Rattle.no_model.specs.Run.{Ran, run}
-use Rattle.no_app.specs.Counted.{Counted}
 use Rattle.no_app.specs.Words.{Asked}
 use Rattle.no_app.specs.Jobs.{IsRunOf, Counts, input_of}
-use Rattle.no_app.specs.Outcomes.{Flow, Around, OnJob, OnModule, RanWhole, RanPart, RanAs, RunsText, RunsPart, RunsTo, IsRefused, Says, WritesPart, Idle, outcome_of, outcome_of_job, left_out}
+use Rattle.no_app.specs.Outcomes.{Flow, Around, OnModule, RanWhole, RanPart, RanAs, RunsText, RunsPart, Says, WritesPart, outcome_of, outcome_of_job, left_out}
 use Rattle.no_app.specs.declared.job.JobEnd.{JobEnd}
 use Rattle.no_app.specs.declared.job.JobEnd.TheVariants as job
 use Rattle.no_app.specs.declared.outcome.Outcome.{Outcome}
@@ -42,14 +39,16 @@ job_ran job.NoMemory f ran is counts fault = tt
 pub text_cut : (text bytes : List ℕ) → text ≡ take 16777217 bytes → module_of bytes ≡ module_of text
 unfolding module_of
 text_cut text bytes e = elim (cases_Bool (nat_le (length bytes) 16777216)) [
-    inl fits ↦ ap module_of (sym (e ∙ take_all 16777217 bytes (short fits)))
-  | inr larger ↦ rw (larger, long larger) refl ]
+  | inl fits ↦ ap module_of (sym (e ∙ take_all 16777217 bytes (short fits)))
+  | inr larger ↦ rw (larger, long larger) refl
+]
   where
     short : nat_le (length bytes) 16777216 ≡ true → length bytes ≤ 16777217
     short fits = let le = leb-true (length bytes) 16777216 fits in omega (arith, le)
+
     long : nat_le (length bytes) 16777216 ≡ false → nat_le (length text) 16777216 ≡ false
     long larger = lt-leb (length text) 16777216
-      (let more = leb-false (length bytes) 16777216 larger in rw (e, length-take-le 16777217 bytes (omega (arith, more))) (lit< tt))
+        (let more = leb-false (length bytes) 16777216 larger in rw (e, length-take-le 16777217 bytes (omega (arith, more))) (lit< tt))
 
 -- ---- where a file tells what it holds, and the text is its first bytes
 
@@ -99,13 +98,13 @@ pub says_text : (o : Outcome) (a : Around) (asked : Asked) (text : List ℕ) →
     → RunsText o a.flow (input_of a.input) asked.steps (module_of text) → Says o a
 says_text (outcome.Exited c) a asked text job holds r =
     rw job (told_module (λ found. OnModule found (λ m. RanWhole (outcome.Exited c) a.flow (run m (input_of a.input) asked.steps))) (a.contents asked.file) text holds
-      (ran_exited c a.flow (input_of a.input) asked.steps (module_of text) r))
+    (ran_exited c a.flow (input_of a.input) asked.steps (module_of text) r))
 says_text (outcome.Trapped t) a asked text job holds r =
     rw job (told_module (λ found. OnModule found (λ m. RanWhole (outcome.Trapped t) a.flow (run m (input_of a.input) asked.steps))) (a.contents asked.file) text holds
-      (ran_trapped t a.flow (input_of a.input) asked.steps (module_of text) r))
+    (ran_trapped t a.flow (input_of a.input) asked.steps (module_of text) r))
 says_text outcome.Unfinished a asked text job holds r =
     rw job (told_module (λ found. OnModule found (λ m. RanWhole outcome.Unfinished a.flow (run m (input_of a.input) asked.steps))) (a.contents asked.file) text holds
-      (ran_unfinished a.flow (input_of a.input) asked.steps (module_of text) r))
+    (ran_unfinished a.flow (input_of a.input) asked.steps (module_of text) r))
 says_text outcome.NoMemory a asked text job holds r = tt
 says_text outcome.Usage a asked text job holds r = absurd (never_usage a.flow (input_of a.input) asked.steps (module_of text) r)
 says_text (outcome.FileFault name) a asked text job holds r = absurd (never_file name a.flow (input_of a.input) asked.steps (module_of text) r)

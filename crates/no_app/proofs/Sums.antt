@@ -1,5 +1,5 @@
 -- Sums modulo a number.
-use Rattle.std.proofs.Common.{◌≡◌, ℕ, ◌+◌, ◌%◌, ◌∙◌, sym}
+use Rattle.std.proofs.Common.{◌≡◌, ℕ, ◌+◌, ◌%◌, ◌∙◌}
 use Rattle.std.proofs.Math.Nat.{add-mod-mod, mod-add-mod}
 
 pub sum_of_remainders : (a b n : ℕ) → (a % n + b % n) % n ≡ (a + b) % n

@@ -1,5 +1,5 @@
 -- What a job says of its run.
-use Rattle.std.specs.Prelude.{◌≡◌, ℕ, ◌+◌, ◌-◌, ◌≤◌, List, Option, Some, None, unwrap_or, []}
+use Rattle.std.specs.Prelude.{◌≡◌, ℕ, ◌+◌, ◌≤◌, List, Option, Some, None, unwrap_or, []}
 use Rattle.no_ports.specs.Meanings.{Adds, AddsPrefix}
 use Rattle.no_model.specs.Run.{Ran}
 use Rattle.no_app.specs.Counted.{Counted}
@@ -13,7 +13,17 @@ use Rattle.no_app.specs.declared.job.Worked.TheVariants as worked
 -- the report of a run on the device alone
 abbrev pub report_alone : ℕ → Report
 report_alone count = record {
-    offloads = 0; finished = 0; lost = 0; abandoned = 0; declined = 0; pages = 0; dirty = 0; remote = 0; local = count; breach = None }
+  offloads = 0;
+  finished = 0;
+  lost = 0;
+  abandoned = 0;
+  declined = 0;
+  pages = 0;
+  dirty = 0;
+  remote = 0;
+  local = count;
+  breach = None;
+}
 
 -- the job's end is the run's, and all of its output was written; otherwise a prefix of it
 abbrev pub IsRunOf : JobEnd → Ran → Option (List ℕ) → Option (List ℕ) → Type 0

@@ -1,5 +1,5 @@
 -- Outcomes: the status and the last line of each, and when each comes.
-use Rattle.std.specs.Prelude.{◌≡◌, ℕ, ◌+◌, ◌≤◌, List, [], ◌∷◌, ◌++◌, Option, Some, None, codes, decimal, IfSome, ◌⊎◌}
+use Rattle.std.specs.Prelude.{◌≡◌, ℕ, ◌+◌, ◌≤◌, List, [], ◌++◌, Option, Some, None, codes, decimal, IfSome, ◌⊎◌}
 use Rattle.no_ports.specs.Meanings.{Rose, Adds, AddsPrefix}
 use Rattle.no_ir.specs.declared.ending.End.{End}
 use Rattle.no_ir.specs.declared.ending.End.TheVariants as end

@@ -19,6 +19,18 @@ abbrev pub Finds : {X Y : Type 0} → (X → Y) → Option X → Option Y → Ty
 Finds view (Some x) read = read ≡ Some (view x)
 Finds view None read = read ≡ None
 
+-- a new name is at the end
+abbrev pub AddsName : Result (Unit {0}) Refusal → List (List ℕ) → List (List ℕ) → List ℕ → Type 0
+AddsName (Ok _) old new name = new ≡ old ++ name ∷ []
+AddsName (Err refusal.LeftOut) old new name = ⊥
+AddsName (Err refusal.NoMemory) old new name = Unit {0}
+
+-- an instruction is at the end
+abbrev pub AddsInstr : Result (Unit {0}) Refusal → List Instr → List Instr → ℕ → Op → Type 0
+AddsInstr (Ok _) old new register op = new ≡ old ++ plain (Some register) op ∷ []
+AddsInstr (Err refusal.LeftOut) old new register op = ⊥
+AddsInstr (Err refusal.NoMemory) old new register op = Unit {0}
+
 -- a name and an instruction are at the end
 pub record Added (names names' : List (List ℕ)) (instrs instrs' : List Instr) (a : List ℕ × Op) : Type 0 where
   pub name : names' ≡ names ++ a.0 ∷ []
@@ -33,5 +45,8 @@ Adds (Err refusal.NoMemory) names names' instrs instrs' read = Unit {0}
 -- the module of this function main, and of the output function where it is declared
 abbrev pub module_of_main : Bool → Function → Module
 module_of_main declared main = record {
-    layout = layout_text; types = []; globals = [];
-    functions = (if declared then putchar_function ∷ main ∷ [] else main ∷ []) }
+  layout = layout_text;
+  types = [];
+  globals = [];
+  functions = (if declared then putchar_function ∷ main ∷ [] else main ∷ []);
+}

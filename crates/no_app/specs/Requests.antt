@@ -1,5 +1,4 @@
 -- What the reader of words keeps, as the definitions see it.
-use Rattle.std.specs.Prelude.{ℕ, List, Option}
 use Rattle.std.specs.Option.{option_copied}
 use Rattle.no_app.specs.declared.words.Request.{Request}
 use Rattle.no_app.specs.declared.words.Heard as kept

@@ -1,5 +1,5 @@
 -- The words of the command line: which lists of words ask for a job.
-use Rattle.std.specs.Prelude.{◌≡◌, ℕ, Bool, true, false, nat_le, if◌then◌else◌, List, [], ◌∷◌, length, take, drop, Option, Some, None, is_none, unwrap_or, codes, bytes_eq}
+use Rattle.std.specs.Prelude.{ℕ, Bool, true, false, nat_le, if◌then◌else◌, List, [], ◌∷◌, length, take, drop, Option, Some, None, unwrap_or, codes, bytes_eq}
 use Rattle.no_model.specs.Reading.{◌>>=◌, number_of}
 
 -- a file, and a budget of instructions
@@ -48,15 +48,15 @@ abbrev pub hear_option : List ℕ → Option (List ℕ) → Option ℕ → Optio
 hear_option word file steps =
     if bytes_eq word (codes "--steps") then Some (record { waiting = true; file = file; steps = steps })
     else (if begins (codes "--steps=") word
-      then with_budget (drop 8 word) steps >>= (λ n. Some (record { waiting = false; file = file; steps = Some n }))
-      else None)
+    then with_budget (drop 8 word) steps >>= (λ n. Some (record { waiting = false; file = file; steps = Some n }))
+    else None)
 
 -- a word that begins with `--` is an option, and another that begins with `-` is refused
 abbrev pub hear_word : List ℕ → Option (List ℕ) → Option ℕ → Option Heard
 hear_word word file steps =
     if begins (codes "--") word then hear_option word file steps
     else (if begins (codes "-") word then None
-      else with_file word file >>= (λ name. Some (record { waiting = false; file = Some name; steps = steps })))
+    else with_file word file >>= (λ name. Some (record { waiting = false; file = Some name; steps = steps })))
 
 abbrev pub hear : Bool → List ℕ → Option (List ℕ) → Option ℕ → Option Heard
 hear true word file steps = hear_value word file steps

@@ -4,16 +4,14 @@ ghost use Rattle.no_model.specs.Run.{run};
 ghost use Rattle.no_app.specs.Running.{Does};
 ghost use Rattle.no_app.specs.Jobs.{IsRunOf, Counts, Works, input_of, report_alone};
 
-use std::alloc::Global;
-use std::sync::ledger::Ledger;
-
-use no_ir::{End, Module};
-use no_model::Sound;
-use no_ports::{GaveAll, Sink, Source, give_all};
-
 use crate::machine::{Machine, StepAnswer};
 use crate::report::Report;
 use crate::steps::Steps;
+use no_ir::{End, Module};
+use no_model::Sound;
+use no_ports::{GaveAll, Sink, Source, give_all};
+use std::alloc::Global;
+use std::sync::ledger::Ledger;
 
 /// How a job ended.
 #[derive(Clone, Copy, Debug, PartialEq, Eq)]

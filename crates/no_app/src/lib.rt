@@ -16,3 +16,6 @@ pub use outcome::{ModuleFault, Outcome, ReadFault, status};
 pub use report::Report;
 pub use steps::Steps;
 pub use top::command;
+
+#[cfg(test)]
+mod tests;

@@ -5,15 +5,16 @@ ghost use Rattle.no_model.specs.Step.{Goes, Ends, act_add, act_putchar, act_retu
 ghost use Rattle.no_app.specs.Acted.{Acts};
 ghost use Rattle.no_app.specs.Running.{Does, TakesStep};
 
+use crate::Steps;
+use no_ir::{
+    BinOp, Const, End, Function, Instr, List, Module, NoMemory, Op, Operand, Symbol, Trap, Ty,
+};
+use no_model::Frame;
 use std::alloc::Global;
 use std::sync::ledger::Ledger;
 
-use no_ir::{BinOp, Const, End, Function, Instr, List, Module, NoMemory, Op, Operand, Symbol, Trap, Ty};
-use no_model::Frame;
-
-use crate::Steps;
-
 const PUTCHAR: &[u8] = b"putchar";
+
 const MAIN: &[u8] = b"main";
 
 /// What an instruction did.
@@ -162,12 +163,7 @@ fn act_on_external(
 }
 
 /// Does one instruction.
-fn act_on(
-    program: &Module,
-    frame: &mut Frame,
-    instr: &Instr,
-    out: &mut Vec<u8>,
-) -> Acted
+fn act_on(program: &Module, frame: &mut Frame, instr: &Instr, out: &mut Vec<u8>) -> Acted
     requires { frame.old.at + 1 < 2 ^ 64 }
     ensures { Acts (act_op program.now instr.now.result instr.now.op frame.old) result frame.old frame.new out.old.items out.new.items }
 {

@@ -2,19 +2,24 @@ ghost use Rattle.std.specs.Prelude.{◌≡◌, ◌≢◌, ◌+◌, ◌<◌, ◌^
 ghost use Rattle.no_model.specs.Reading.{is_close, cut, strip, lines_of, is_name, number_of, integer_of, register_of, operand_of, add_of, call_of, value_of, assignment_of, body_of, ending_of, definition_of, functions_of, module_of_lines, module_of, add_op, call_op, return_op, plain, main_function, putchar_function, module_with};
 ghost use Rattle.std.specs.List.{list_all};
 ghost use Rattle.std.specs.Char.{is_ascii_alphanumeric};
-ghost use Rattle.no_app.specs.Refused.{Reads, Finds, Adds, module_of_main};
+ghost use Rattle.no_app.specs.Refused.{Reads, Finds, Adds, AddsName, AddsInstr, module_of_main};
 ghost use Rattle.no_app.specs.declared.reading.Refusal.TheVariants.{NoMemory};
 
+use no_ir::{
+    BinOp, Block, Bytes, Const, Function, Instr, List, Module, Names, NoMemory, Op, Operand, Place,
+    Symbol, Ty,
+};
 use std::alloc::{AllocError, AllocFailed, Global};
-
-use no_ir::{BinOp, Block, Bytes, Const, Function, Instr, List, Module, Op, Operand, Place, Symbol, Ty};
 
 /// The greatest length of a module's file, in bytes.
 pub(crate) const TEXT_LIMIT: u32 = 16_777_216;
 
 const LAYOUT: &[u8] = b"target datalayout = \"E-p:32:32-i64:64\"";
+
 const DECLARATION: &[u8] = b"declare i32 @putchar(i32)";
+
 const DEFINITION: &[u8] = b"define i32 @main() {";
+
 const CLOSE: &[u8] = b"}";
 
 /// Why a text is not read.
@@ -29,6 +34,14 @@ impl From<AllocError> for Refusal {
     ghost from_gives = { λ _ e. e ≡ NoMemory };
 
     fn from(_error: AllocError) -> Refusal {
+        Refusal::NoMemory
+    }
+}
+
+impl From<NoMemory> for Refusal {
+    ghost from_gives = { λ _ e. e ≡ NoMemory };
+
+    fn from(_error: NoMemory) -> Refusal {
         Refusal::NoMemory
     }
 }
@@ -138,20 +151,19 @@ fn integer(text: &[u8]) -> Option<u64>
 }
 
 /// The register that an earlier line assigns.
-fn register(names: &[Bytes], name: &[u8]) -> Option<u32>
+#[tactic(auto, using(crate::proofs::Registers::place_within), unfolding(no_model::specs::Reading::register_of))]
+fn register(names: &Names, name: &[u8]) -> Option<u32>
     requires { length names.now < 2 ^ 32 }
     ensures { result ≡ register_of names.now name.now }
 {
-    for (index, other) in names.iter().enumerate() {
-        if other.as_slice() == name {
-            return Some(index as u32);
-        }
+    match names.find(name) {
+        Some(place) => Some(place as u32),
+        None => None,
     }
-    None
 }
 
 /// A register or an integer.
-fn operand(names: &[Bytes], text: &[u8]) -> Option<Operand>
+fn operand(names: &Names, text: &[u8]) -> Option<Operand>
     requires { length names.now < 2 ^ 32 }
     ensures { result ≡ operand_of names.now text.now }
 {
@@ -163,7 +175,7 @@ fn operand(names: &[Bytes], text: &[u8]) -> Option<Operand>
 }
 
 /// The sum of two operands.
-fn addition(names: &[Bytes], rest: &[u8]) -> Option<Op>
+fn addition(names: &Names, rest: &[u8]) -> Option<Op>
     requires { length names.now < 2 ^ 32 }
     ensures { result ≡ add_of names.now rest.now }
 {
@@ -189,7 +201,7 @@ fn call(alloc: Global, a: Operand) -> Result<Op, Refusal>
 }
 
 /// The call of the output function with an operand.
-fn output(alloc: Global, names: &[Bytes], rest: &[u8]) -> Result<Op, Refusal>
+fn output(alloc: Global, names: &Names, rest: &[u8]) -> Result<Op, Refusal>
     requires { length names.now < 2 ^ 32 }
     ensures { Reads (λ o. o) result (call_of names.now rest.now) }
 {
@@ -202,7 +214,7 @@ fn output(alloc: Global, names: &[Bytes], rest: &[u8]) -> Result<Op, Refusal>
 }
 
 /// What a register is assigned.
-fn assigned_value(alloc: Global, declared: bool, names: &[Bytes], rest: &[u8]) -> Result<Op, Refusal>
+fn assigned_value(alloc: Global, declared: bool, names: &Names, rest: &[u8]) -> Result<Op, Refusal>
     requires { length names.now < 2 ^ 32 }
     ensures { Reads (λ o. o) result (value_of declared names.now rest.now) }
 {
@@ -219,11 +231,12 @@ fn assigned_value(alloc: Global, declared: bool, names: &[Bytes], rest: &[u8]) -
 fn assignment<'a>(
     alloc: Global,
     declared: bool,
-    names: &[Bytes],
+    names: &Names,
     line: &'a [u8],
 ) -> Result<(&'a [u8], Op), Refusal>
     requires { length names.now < 2 ^ 32 }
-    ensures { Reads (λ p. (p.0.now, p.1)) result (assignment_of declared names.now line.now) }
+    ensures value { Reads (λ p. (p.0.now, p.1)) result (assignment_of declared names.now line.now) }
+    ensures fresh { IfOk result (λ p. register_of names.now p.0.now ≡ None) }
 {
     let rest = after(b"  %", line).ok_or(Refusal::LeftOut)?;
     let (name, more) = parts(rest, b' ').ok_or(Refusal::LeftOut)?;
@@ -245,33 +258,54 @@ fn is_closed(text: &[u8]) -> bool
 }
 
 /// What the return gives, and after it the closing bracket.
-fn ending(names: &[Bytes], value: &[u8], more: &[u8]) -> Option<Operand>
+fn ending(names: &Names, value: &[u8], more: &[u8]) -> Option<Operand>
     requires { length names.now < 2 ^ 32 }
     ensures { result ≡ ending_of names.now value.now (lines_of more.now) }
 {
-    if is_closed(more) { operand(names, value) } else { None }
+    if is_closed(more) {
+        operand(names, value)
+    } else {
+        None
+    }
+}
+
+/// Adds a new name at the end.
+fn add_name(names: &mut Names, name: &[u8]) -> Result<(), Refusal>
+    requires room { length names.old + 1 < 2 ^ 32 }
+    requires fresh { register_of names.old name.now ≡ None }
+    ensures { AddsName result names.old names.new name.now }
+{
+    names.number(name)?;
+    Ok(())
+}
+
+/// Adds an instruction that assigns a register.
+fn add_instr(instrs: &mut List<Instr>, register: u32, op: Op) -> Result<(), Refusal>
+    ensures { AddsInstr result instrs.old instrs.new register op }
+{
+    instrs.push(Instr {
+        result: Some(register),
+        inserted: false,
+        op,
+    })?;
+    Ok(())
 }
 
 /// Adds an instruction that a line assigns, and its register's name.
 fn add_line(
     alloc: Global,
     declared: bool,
-    names: &mut List<Bytes>,
+    names: &mut Names,
     instrs: &mut List<Instr>,
     line: &[u8],
 ) -> Result<(), Refusal>
     requires { length names.old + 1 < 2 ^ 32 }
     ensures { Adds result names.old names.new instrs.old instrs.new (assignment_of declared names.old line.now) }
 {
-    let (name, op) = assignment(alloc, declared, names.as_slice(), line)?;
-    let result = Some(names.len() as u32);
-    names.push(Bytes::from_slice(alloc, name)?)?;
-    instrs.push(Instr {
-        result,
-        inserted: false,
-        op,
-    })?;
-    Ok(())
+    let (name, op) = assignment(alloc, declared, names, line)?;
+    let register = names.len() as u32;
+    add_instr(instrs, register, op)?;
+    add_name(names, name)
 }
 
 /// The lines of a body: the names of its registers and its instructions.
@@ -279,18 +313,18 @@ fn body(alloc: Global, declared: bool, text: &[u8]) -> Result<(List<Bytes>, List
     requires { length text.now < 2 ^ 31 }
     ensures { Reads (λ b. b) result (body_of declared [] (lines_of text.now)) }
 {
-    let mut names = List::new(alloc);
+    let mut names = Names::new(alloc)?;
     let mut instrs = List::new(alloc);
     let mut rest = text;
     while let Some((line, more)) = next_line(rest) {
         if let Some(value) = after(b"  ret i32 ", line) {
-            let a = ending(names.as_slice(), value, more).ok_or(Refusal::LeftOut)?;
+            let a = ending(&names, value, more).ok_or(Refusal::LeftOut)?;
             instrs.push(Instr {
                 result: None,
                 inserted: false,
                 op: Op::Ret(Some((Ty::Int(32), a))),
             })?;
-            return Ok((names, instrs));
+            return Ok((names.into_list()?, instrs));
         }
         add_line(alloc, declared, &mut names, &mut instrs, line)?;
         rest = more;
@@ -319,7 +353,11 @@ fn declared_putchar(alloc: Global) -> Result<Function, Refusal>
 }
 
 /// The function `main` with this body.
-fn defined_main(alloc: Global, registers: List<Bytes>, instrs: List<Instr>) -> Result<Function, Refusal>
+fn defined_main(
+    alloc: Global,
+    registers: List<Bytes>,
+    instrs: List<Instr>,
+) -> Result<Function, Refusal>
     ensures { Reads (λ f. f) result (Some (main_function (registers, instrs))) }
 {
     let mut labels = List::new(alloc);

@@ -3,7 +3,6 @@ ghost use Rattle.std.specs.Prelude.{◌≡◌, ◌+◌};
 use std::marker::Model;
 use std::sync::ledger::{Blank, Book, Ledger, Share};
 
-
 /// How many instructions were counted: those of source modules and those of servers' parts.
 /// Only a machine's step raises it.
 #[derive(Drop)]

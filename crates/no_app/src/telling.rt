@@ -2,12 +2,10 @@ ghost use Rattle.std.specs.Prelude.{◌≡◌, ℕ, ◌≤◌, ◌++◌, ◌⊎�
 ghost use Rattle.no_ports.specs.Meanings.{Rose};
 ghost use Rattle.no_app.specs.Outcomes.{line_of, words_of, module_words, read_words, Tells, Becomes};
 
-use std::alloc::Global;
-
+use crate::outcome::{ModuleFault, Outcome, ReadFault};
 use no_ir::{NoMemory, Trap};
 use no_ports::{GaveAll, Sink, give_all};
-
-use crate::outcome::{ModuleFault, Outcome, ReadFault};
+use std::alloc::Global;
 
 /// Adds a number in decimal digits.
 fn put_number(out: &mut Vec<u8>, alloc: Global, n: u64) -> Result<(), NoMemory>

@@ -4,20 +4,18 @@ ghost use Rattle.no_app.specs.Jobs.{input_of};
 ghost use Rattle.no_app.specs.Words.{asked_of};
 ghost use Rattle.no_app.specs.Outcomes.{Says, WritesPart, Concludes, Tells, RunsText, RunsPart, left_out, outcome_of_job};
 
-use std::alloc::Global;
-use std::convert::AsStr;
-use std::sync::ledger::Ledger;
-
-use no_ir::{Bytes, End, List, Role, Text};
-use no_model::Sound;
-use no_ports::{FileAnswer, Files, Sink, Source, Spawner, Wire};
-
 use crate::job::{JobEnd, local_job};
 use crate::outcome::{ModuleFault, Outcome, ReadFault};
 use crate::reading::{Refusal, TEXT_LIMIT, read_text};
 use crate::steps::Steps;
 use crate::telling::tell;
 use crate::words::read_words;
+use no_ir::{Bytes, End, List, Role, Text};
+use no_model::Sound;
+use no_ports::{FileAnswer, Files, Sink, Source, Spawner, Wire};
+use std::alloc::Global;
+use std::convert::AsStr;
+use std::sync::ledger::Ledger;
 
 /// The outcome of a file that could not be read.
 fn file_fault(alloc: Global, name: &str) -> Outcome
@@ -67,7 +65,14 @@ fn run_text<I: Source, O: Sink, L: Ledger>(
     ensures untouched { input.new ≡ input.old }
 {
     match read_text(alloc, text) {
-        Ok(program) => job_outcome(local_job(alloc, Sound::of(program, Role::Source), budget, input, out, steps)),
+        Ok(program) => job_outcome(local_job(
+            alloc,
+            Sound::of(program, Role::Source),
+            budget,
+            input,
+            out,
+            steps,
+        )),
         Err(Refusal::LeftOut) => bad_text(alloc),
         Err(Refusal::NoMemory) => Outcome::NoMemory,
     }

@@ -4,10 +4,9 @@ ghost use Rattle.no_app.specs.Refused.{Finds};
 ghost use Rattle.no_app.specs.Requests.{request_of, heard_of};
 ghost use Rattle.no_app.specs.Words.{with_budget, budget_of, hear_value, hear_option, hear_word, hear, scanned, asked_of, finished};
 
+use crate::reading::number;
 use no_ir::Text;
 use std::convert::AsStr;
-
-use crate::reading::number;
 
 /// What the words ask for: a file, and a budget of instructions.
 #[derive(Clone, Copy)]

@@ -6,6 +6,7 @@ mod bits;
 mod comparison;
 mod conversion;
 mod division;
+mod laws;
 mod number;
 mod shift;
 #[cfg(test)]
@@ -14,3 +15,4 @@ mod tests;
 pub use arithmetic::binary;
 pub use comparison::compare;
 pub use conversion::cast;
+pub use laws::results_are_within;

@@ -15,7 +15,7 @@ use std::marker::Model;
 use std::mem;
 
 /// The live blocks, which contracts see as a list that rises by place.
-#[derive(Drop)]
+#[derive(Debug, Drop)]
 pub struct Heap {
     blocks: Vec<Block>,
     /// Room in which a changed list is made.

@@ -1,7 +1,7 @@
 -- An instruction that writes nothing leaves the output as it was.
 use Rattle.std.proofs.Common.{ℕ, Bool, List, [], refl, sym, append-nil}
-use Rattle.no_model.specs.State.{State}
-use Rattle.no_model.specs.Step.{Next}
+use Rattle.no_semantics.specs.State.{State}
+use Rattle.no_semantics.specs.Step.{Next}
 use Rattle.no_machine.specs.Acted.{Moves, Acts}
 use Rattle.no_machine.specs.declared.state.Acted.{Acted}
 use Rattle.no_machine.specs.declared.state.Acted.TheVariants as acted

@@ -2,11 +2,11 @@
 use Rattle.std.proofs.Common.{◌≡◌, ◌≢◌, ℕ, suc, Bool, ◌+◌, ◌-◌, ◌≤◌, List, [], ◌++◌, refl, sym, ap, subst, ◌∙◌, append-nil, Option, Some, None, arith}
 use Rattle.no_ir.specs.declared.ending.End.{End}
 use Rattle.no_layout.specs.declared.memory.Regions.{Regions}
-use Rattle.no_model.specs.Accepted.{Accepted}
-use Rattle.no_model.specs.State.{State}
-use Rattle.no_model.specs.Step.{Goes, Ends, step}
-use Rattle.no_model.specs.Run.{Ran, ended, following, run_from}
-use Rattle.no_model.specs.Values.{Program}
+use Rattle.no_semantics.specs.Accepted.{Accepted}
+use Rattle.no_semantics.specs.State.{State}
+use Rattle.no_semantics.specs.Step.{Goes, Ends, step}
+use Rattle.no_semantics.specs.Run.{Ran, ended, following, run_from}
+use Rattle.no_semantics.specs.Values.{Program}
 use Rattle.no_machine.specs.Held.{program_in, state_in, IsKept}
 use Rattle.no_machine.specs.Running.{rest_from, Does}
 use Rattle.no_machine.specs.declared.state.Core.{Core}

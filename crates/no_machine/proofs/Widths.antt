@@ -7,9 +7,9 @@ use Rattle.no_ir.specs.declared.constant.Place.{Place}
 use Rattle.no_layout.specs.Orders.{IsWidth}
 use Rattle.no_layout.specs.Text.{is_formed}
 use Rattle.no_layout.specs.declared.layout.Layout.{Layout}
-use Rattle.no_model.specs.Reading.{is_empty}
-use Rattle.no_model.specs.Sound.{is_width, is_scalar, is_scalar_step, is_bare}
-use Rattle.no_model.specs.Values.{Program, bytes_of_width, width_of, width_step, gep_offset, place_address, symbol_address}
+use Rattle.no_semantics.specs.Lists.{is_empty}
+use Rattle.no_semantics.specs.Sound.{is_width, is_scalar, is_scalar_step, is_bare}
+use Rattle.no_semantics.specs.Values.{Program, bytes_of_width, width_of, width_step, gep_offset, place_address, symbol_address}
 use Rattle.no_eval.specs.Numbers.{modulo}
 
 or_cases : (a b : Bool) → (a || b) ≡ true → (a ≡ true) ⊎ (b ≡ true)

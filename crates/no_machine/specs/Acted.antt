@@ -3,8 +3,8 @@ use Rattle.std.specs.Prelude.{◌≡◌, ℕ, Bool, false, List, [], ◌++◌, O
 use Rattle.no_ir.specs.declared.instruction.Op.{Op}
 use Rattle.no_ir.specs.declared.instruction.Op.TheVariants as op
 use Rattle.no_ir.specs.declared.instruction.Instr.{Instr}
-use Rattle.no_model.specs.State.{State}
-use Rattle.no_model.specs.Step.{Next, Goes, Ends}
+use Rattle.no_semantics.specs.State.{State}
+use Rattle.no_semantics.specs.Step.{Next, Goes, Ends}
 use Rattle.no_machine.specs.declared.state.Acted.{Acted}
 use Rattle.no_machine.specs.declared.state.Acted.TheVariants as acted
 

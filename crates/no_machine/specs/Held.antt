@@ -1,9 +1,9 @@
 -- The state and the program that a machine holds.
 use Rattle.std.specs.Prelude.{◌≡◌, ℕ, Bool}
 use Rattle.no_layout.specs.declared.memory.Regions.{Regions}
-use Rattle.no_model.specs.Accepted.{Accepted}
-use Rattle.no_model.specs.State.{State}
-use Rattle.no_model.specs.Values.{Program}
+use Rattle.no_semantics.specs.Accepted.{Accepted}
+use Rattle.no_semantics.specs.State.{State}
+use Rattle.no_semantics.specs.Values.{Program}
 use Rattle.no_machine.specs.declared.state.Core.{Core}
 
 abbrev pub state_in : {M : Type 0} → (M → ℕ → ℕ) → Core M → State

@@ -2,10 +2,10 @@
 use Rattle.std.specs.Prelude.{◌≡◌, ℕ, Bool, false, ◌+◌, ◌-◌, ◌≤◌, List, ◌++◌, Option, Some, None}
 use Rattle.no_ir.specs.declared.ending.End.{End}
 use Rattle.no_layout.specs.declared.memory.Regions.{Regions}
-use Rattle.no_model.specs.Accepted.{Accepted}
-use Rattle.no_model.specs.Run.{Ran, ended, following, run_from}
-use Rattle.no_model.specs.State.{State, instr_at, start}
-use Rattle.no_model.specs.Values.{Program}
+use Rattle.no_semantics.specs.Accepted.{Accepted}
+use Rattle.no_semantics.specs.Run.{Ran, ended, following, run_from}
+use Rattle.no_semantics.specs.State.{State, instr_at, start}
+use Rattle.no_semantics.specs.Values.{Program}
 use Rattle.no_machine.specs.Acted.{MayLackMemory}
 use Rattle.no_machine.specs.Held.{program_in, state_in}
 use Rattle.no_machine.specs.declared.machine.Machine.{Machine}

@@ -1,9 +1,9 @@
 ghost use Rattle.std.specs.Prelude.{◌≡◌, ◌≢◌, ◌+◌, ◌*◌, ◌<◌, ◌≤◌, ◌%◌, ◌^◌, ◌∷◌, [], map, true};
 ghost use Rattle.no_layout.specs.Sizes.{type_align, type_stride};
-ghost use Rattle.no_model.specs.Image.{stated_or};
-ghost use Rattle.no_model.specs.Sound.{align_fits, count_fits, indices_fit, is_scalar, is_width, operand_fits, type_fits};
-ghost use Rattle.no_model.specs.Step.{act_alloca, act_gep, act_load, act_store, count_in, lowered};
-ghost use Rattle.no_model.specs.Values.{bytes_of_width, extended, gep_offset, index_value, value};
+ghost use Rattle.no_semantics.specs.Image.{stated_or};
+ghost use Rattle.no_semantics.specs.Sound.{align_fits, count_fits, indices_fit, is_scalar, is_width, operand_fits, type_fits};
+ghost use Rattle.no_semantics.specs.Step.{act_alloca, act_gep, act_load, act_store, count_in, lowered};
+ghost use Rattle.no_semantics.specs.Values.{bytes_of_width, extended, gep_offset, index_value, value};
 ghost use Rattle.no_machine.specs.Acted.{Moves};
 ghost use Rattle.no_machine.specs.Held.{IsKept, program_in, state_in};
 ghost use Rattle.no_layout.specs.Orders.{IsWidth};
@@ -13,7 +13,7 @@ use crate::state::{Acted, Core};
 use crate::values::{narrowed, pointer_width, resized, width_at};
 use no_ir::{End, Operand, Trap, Ty};
 use no_layout::{Memory, STACK_START};
-use no_model::Sound;
+use no_semantics::Sound;
 
 /// How many bytes a number of w bits takes in memory.
 #[tactic(auto, using(crate::proofs::Widths::bytes_width, crate::proofs::Widths::bytes_room))]
@@ -109,7 +109,7 @@ impl<M: Memory> Core<M> {
     }
 
     /// Room on the stack.
-    #[tactic(auto, unfolding(no_model::specs::Step::act_alloca))]
+    #[tactic(auto, unfolding(no_semantics::specs::Step::act_alloca))]
     pub(crate) fn allocate(
         &mut self,
         sound: &Sound,
@@ -137,7 +137,7 @@ impl<M: Memory> Core<M> {
     }
 
     /// Reads a number from memory.
-    #[tactic(auto, unfolding(no_model::specs::Step::act_load))]
+    #[tactic(auto, unfolding(no_semantics::specs::Step::act_load))]
     pub(crate) fn load(&mut self, sound: &Sound, into: Option<u32>, t: &Ty, a: &Operand) -> Acted
         requires room { self.old.frame.at + 1 < 2 ^ 64 }
         requires scalar { is_scalar t.now ≡ true }
@@ -159,7 +159,7 @@ impl<M: Memory> Core<M> {
     }
 
     /// Writes a number to memory.
-    #[tactic(auto, unfolding(no_model::specs::Step::act_store))]
+    #[tactic(auto, unfolding(no_semantics::specs::Step::act_store))]
     pub(crate) fn store(&mut self, sound: &Sound, t: &Ty, v: &Operand, a: &Operand) -> Acted
         requires room { self.old.frame.at + 1 < 2 ^ 64 }
         requires scalar { is_scalar t.now ≡ true }
@@ -213,7 +213,7 @@ impl<M: Memory> Core<M> {
     }
 
     /// Pointer arithmetic.
-    #[tactic(auto, using(crate::proofs::Offsets::sum_known), unfolding(no_model::specs::Step::act_gep))]
+    #[tactic(auto, using(crate::proofs::Offsets::sum_known), unfolding(no_semantics::specs::Step::act_gep))]
     pub(crate) fn step_into(
         &mut self,
         sound: &Sound,

@@ -1,14 +1,14 @@
 ghost use Rattle.std.specs.Prelude.{◌≡◌, ◌+◌, ◌<◌, ◌^◌, true};
-ghost use Rattle.no_model.specs.Sound.{op_fits};
-ghost use Rattle.no_model.specs.Step.{act_op, step};
-ghost use Rattle.no_model.specs.State.{instr_at};
+ghost use Rattle.no_semantics.specs.Sound.{op_fits};
+ghost use Rattle.no_semantics.specs.Step.{act_op, step};
+ghost use Rattle.no_semantics.specs.State.{instr_at};
 ghost use Rattle.no_machine.specs.Acted.{Acts, MayLackMemory, OpTakesMemory};
 ghost use Rattle.no_machine.specs.Held.{IsKept, program_in, state_in};
 
 use crate::state::{Acted, Core};
 use no_ir::{End, Instr, Op, Trap};
 use no_layout::Memory;
-use no_model::Sound;
+use no_semantics::Sound;
 
 impl<M: Memory> Core<M> {
     /// Does one instruction.
@@ -38,7 +38,7 @@ impl<M: Memory> Core<M> {
     }
 
     /// Does the next instruction.
-    #[tactic(auto, unfolding(no_model::specs::Step::step))]
+    #[tactic(auto, unfolding(no_semantics::specs::Step::step))]
     pub(crate) fn act_next(&mut self, sound: &Sound, out: &mut Vec<u8>) -> Acted
         ensures acts { Acts (step (program_in M.regions sound.now self.old) (state_in M.byte self.old)) (M.held self.old.mem) result (state_in M.byte self.old) (state_in M.byte self.new) out.old.items out.new.items }
         ensures kept { IsKept M.regions M.held self.old self.new }

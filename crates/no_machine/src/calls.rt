@@ -1,8 +1,8 @@
 ghost use Rattle.std.specs.Prelude.{◌≡◌, ◌+◌, ◌<◌, ◌^◌, true};
 ghost use Rattle.std.specs.Option.{option_copied};
-ghost use Rattle.no_model.specs.Sound.{args_fit, is_scalar, operand_fits};
-ghost use Rattle.no_model.specs.State.{callee, constant_function};
-ghost use Rattle.no_model.specs.Step.{Ends, act_called, act_call, act_external, act_putchar, act_return, is_putchar};
+ghost use Rattle.no_semantics.specs.Sound.{args_fit, is_scalar, operand_fits};
+ghost use Rattle.no_semantics.specs.State.{callee, constant_function};
+ghost use Rattle.no_semantics.specs.Step.{Ends, act_called, act_call, act_external, act_putchar, act_return, is_putchar};
 ghost use Rattle.no_machine.specs.Acted.{Acts};
 ghost use Rattle.no_machine.specs.Held.{IsKept, program_in, state_in};
 
@@ -10,7 +10,7 @@ use crate::state::{Acted, Core};
 use crate::values::width_at;
 use no_ir::{Const, End, Function, Module, Operand, Symbol, Trap, Ty};
 use no_layout::Memory;
-use no_model::Sound;
+use no_semantics::Sound;
 
 const PUTCHAR: &[u8] = b"putchar";
 
@@ -46,7 +46,7 @@ fn writes_byte(function: &Function) -> bool
 
 impl<M: Memory> Core<M> {
     /// The low byte is written, and given back.
-    #[tactic(auto, unfolding(no_model::specs::Step::act_putchar))]
+    #[tactic(auto, unfolding(no_semantics::specs::Step::act_putchar))]
     fn put_character(
         &mut self,
         sound: &Sound,
@@ -88,7 +88,7 @@ impl<M: Memory> Core<M> {
     }
 
     /// A call.
-    #[tactic(auto, unfolding(no_model::specs::Step::act_call))]
+    #[tactic(auto, unfolding(no_semantics::specs::Step::act_call))]
     pub(crate) fn call(
         &mut self,
         sound: &Sound,
@@ -109,7 +109,7 @@ impl<M: Memory> Core<M> {
     }
 
     /// How a return of the first frame ends the run.
-    #[tactic(auto, unfolding(no_model::specs::Step::act_return))]
+    #[tactic(auto, unfolding(no_semantics::specs::Step::act_return))]
     pub(crate) fn returned(&self, sound: &Sound, t: &Ty, a: &Operand) -> End
         requires scalar { is_scalar t.now ≡ true }
         requires operand { operand_fits a.now ≡ true }

@@ -1,5 +1,5 @@
 ghost use Rattle.std.specs.Prelude.{◌≡◌, ◌-◌, ◌≤◌, None, IfOk, replicate};
-ghost use Rattle.no_model.specs.State.{main_number, start_frame};
+ghost use Rattle.no_semantics.specs.State.{main_number, start_frame};
 ghost use Rattle.no_machine.specs.Counted.{counted};
 ghost use Rattle.no_machine.specs.Running.{Does, IsBooted, TakesStep, budget_of, count_of, end_of, memory_of, state_of};
 
@@ -7,7 +7,7 @@ use crate::Steps;
 use crate::state::{Acted, Core};
 use no_ir::{End, List, Module, NoMemory};
 use no_layout::{Memory, STACK_END};
-use no_model::{Frame, Sound};
+use no_semantics::{Frame, Sound};
 use std::alloc::Global;
 use std::sync::ledger::Ledger;
 

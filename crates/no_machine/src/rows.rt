@@ -1,7 +1,7 @@
 ghost use Rattle.std.specs.Prelude.{◌≡◌, ◌≢◌, ◌+◌, ◌<◌, ◌≤◌, ◌^◌, true};
-ghost use Rattle.no_model.specs.Sound.{goes_between, is_scalar, operand_fits};
-ghost use Rattle.no_model.specs.Step.{act_binary, act_cast, act_compare, act_freeze, act_select, bit_of};
-ghost use Rattle.no_model.specs.Values.{width_of};
+ghost use Rattle.no_semantics.specs.Sound.{goes_between, is_scalar, operand_fits};
+ghost use Rattle.no_semantics.specs.Step.{act_binary, act_cast, act_compare, act_freeze, act_select, bit_of};
+ghost use Rattle.no_semantics.specs.Values.{width_of};
 ghost use Rattle.no_machine.specs.Acted.{Moves};
 ghost use Rattle.no_machine.specs.Held.{IsKept, program_in, state_in};
 
@@ -10,11 +10,11 @@ use crate::values::width_at;
 use no_eval::{binary, cast, compare};
 use no_ir::{BinOp, CastOp, End, Operand, Pred, Ty};
 use no_layout::Memory;
-use no_model::Sound;
+use no_semantics::Sound;
 
 impl<M: Memory> Core<M> {
     /// A binary operator.
-    #[tactic(auto, unfolding(no_model::specs::Step::act_binary))]
+    #[tactic(auto, unfolding(no_semantics::specs::Step::act_binary))]
     pub(crate) fn binary(
         &mut self,
         sound: &Sound,
@@ -45,7 +45,7 @@ impl<M: Memory> Core<M> {
     }
 
     /// A comparison.
-    #[tactic(auto, unfolding(no_model::specs::Step::act_compare))]
+    #[tactic(auto, unfolding(no_semantics::specs::Step::act_compare))]
     pub(crate) fn compare(
         &mut self,
         sound: &Sound,
@@ -71,7 +71,7 @@ impl<M: Memory> Core<M> {
     }
 
     /// A conversion.
-    #[tactic(auto, unfolding(no_model::specs::Step::act_cast))]
+    #[tactic(auto, unfolding(no_semantics::specs::Step::act_cast))]
     pub(crate) fn convert(
         &mut self,
         sound: &Sound,
@@ -98,7 +98,7 @@ impl<M: Memory> Core<M> {
     }
 
     /// The operand itself.
-    #[tactic(auto, unfolding(no_model::specs::Step::act_freeze))]
+    #[tactic(auto, unfolding(no_semantics::specs::Step::act_freeze))]
     pub(crate) fn freeze(&mut self, sound: &Sound, into: Option<u32>, t: &Ty, a: &Operand) -> Acted
         requires room { self.old.frame.at + 1 < 2 ^ 64 }
         requires scalar { is_scalar t.now ≡ true }
@@ -113,7 +113,7 @@ impl<M: Memory> Core<M> {
     }
 
     /// One of two operands.
-    #[tactic(auto, unfolding(no_model::specs::Step::act_select))]
+    #[tactic(auto, unfolding(no_semantics::specs::Step::act_select))]
     pub(crate) fn select(
         &mut self,
         sound: &Sound,

@@ -1,10 +1,10 @@
 ghost use Rattle.std.specs.Prelude.{◌≡◌, ◌+◌, ◌<◌, ◌^◌};
-ghost use Rattle.no_model.specs.State.{assigned, with_result};
+ghost use Rattle.no_semantics.specs.State.{assigned, with_result};
 ghost use Rattle.no_machine.specs.Held.{IsKept, state_in};
 
 use no_ir::{End, List};
 use no_layout::Memory;
-use no_model::Frame;
+use no_semantics::Frame;
 
 /// What an instruction did.
 #[derive(Clone, Copy, Debug, PartialEq, Eq)]

@@ -1,13 +1,13 @@
 ghost use Rattle.std.specs.Prelude.{◌≡◌, ◌%◌, ◌^◌, ◌<◌, ◌≤◌, slice_index, true};
-ghost use Rattle.no_model.specs.Sound.{constant_fits, is_bare, is_scalar, is_width, operand_fits};
-ghost use Rattle.no_model.specs.Values.{constant, extended, operand_number, place_address, symbol_address, value, width_of};
+ghost use Rattle.no_semantics.specs.Sound.{constant_fits, is_bare, is_scalar, is_width, operand_fits};
+ghost use Rattle.no_semantics.specs.Values.{constant, extended, operand_number, place_address, symbol_address, value, width_of};
 ghost use Rattle.no_machine.specs.Held.{program_in};
 
 use crate::state::Core;
 use no_eval::cast;
 use no_ir::{CastOp, Const, Operand, Place, Symbol, Ty};
 use no_layout::Memory;
-use no_model::{Sound, width};
+use no_semantics::{Sound, width};
 
 const FUNCTIONS: u64 = 0xF000_0000;
 

@@ -1,5 +1,5 @@
 -- The text of a program of one block: what each line may be, and the module that the lines mean.
-use Rattle.std.specs.Prelude.{ℕ, ◌+◌, ◌-◌, ◌*◌, ◌%◌, ◌^◌, Bool, true, false, ◌&&◌, ◌==◌, nat_le, if◌then◌else◌, List, [], ◌∷◌, ◌++◌, length, take, drop, filter, Option, Some, None, is_none, option_map, codes, bytes_eq}
+use Rattle.std.specs.Prelude.{ℕ, ◌+◌, ◌-◌, ◌*◌, ◌%◌, ◌^◌, Bool, true, false, ◌&&◌, ◌==◌, nat_le, if◌then◌else◌, List, [], ◌∷◌, ◌++◌, length, take, drop, filter, Option, Some, None, is_none, option_map, codes, position, bytes_eq}
 use Rattle.std.specs.List.{list_all}
 use Rattle.std.specs.Char.{is_ascii_digit, is_ascii_alphabetic, is_ascii_alphanumeric}
 use Rattle.no_ir.specs.declared.types.Ty.TheVariants as ty
@@ -79,14 +79,9 @@ integer_of (c ∷ cs) = if c == 45 then option_map negated (number_of 2147483648
 
 -- ---- operands and instructions
 
--- the place of a name among others, after n of them
-abbrev pub place_from : ℕ → List (List ℕ) → List ℕ → Option ℕ
-place_from n [] name = None
-place_from n (other ∷ more) name = if bytes_eq other name then Some n else place_from (n + 1) more name
-
--- a register that an earlier line assigns
-abbrev pub register_of : List (List ℕ) → List ℕ → Option ℕ
-register_of names name = place_from 0 names name
+-- the place of a register that an earlier line assigns
+unfoldable pub register_of : List (List ℕ) → List ℕ → Option ℕ
+register_of names name = position (bytes_eq name) names
 
 -- a register or an integer; a percent sign is 37
 abbrev pub operand_of : List (List ℕ) → List ℕ → Option Operand

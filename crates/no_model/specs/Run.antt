@@ -2,11 +2,10 @@
 use Rattle.std.specs.Prelude.{ℕ, zero, suc, ◌+◌, List, [], ◌++◌}
 use Rattle.no_ir.specs.declared.ending.End.{End}
 use Rattle.no_ir.specs.declared.ending.End.TheVariants.{Unfinished}
-use Rattle.no_model.specs.Accepted.{Accepted}
-use Rattle.no_model.specs.First.{program_of, first_byte}
-use Rattle.no_model.specs.State.{State, start}
+use Rattle.no_ir.specs.declared.function.Module.{Module}
+use Rattle.no_model.specs.declared.frame.Frame.{Frame}
+use Rattle.no_model.specs.State.{start}
 use Rattle.no_model.specs.Step.{Next, Goes, Ends, step}
-use Rattle.no_model.specs.Values.{Program}
 
 -- what a run writes, how many instructions it counts, and how it ends
 pub record Ran : Type 0 where
@@ -22,16 +21,16 @@ ended e = record { output = []; count = 0; end = e }
 abbrev pub following : List ℕ → ℕ → Ran → Ran
 following bytes n rest = record { output = bytes ++ rest.output; count = n + rest.count; end = rest.end }
 
--- each instruction counts 1, the last one too, also one that traps
-abbrev pub goes_on : Next → (State → Ran) → Ran
-goes_on (Goes bytes s) rest = following bytes 1 (rest s)
+-- each instruction counts 1, the last one too
+abbrev pub goes_on : Next → (Frame → Ran) → Ran
+goes_on (Goes bytes f) rest = following bytes 1 (rest f)
 goes_on (Ends e) rest = following [] 1 (ended e)
 
--- the rest of a run from a state, within what is left of the budget
-abbrev pub run_from : Program → ℕ → State → Ran
-run_from p zero s = ended Unfinished
-run_from p (suc n) s = goes_on (step p s) (λ t. run_from p n t)
+-- the rest of a run from a frame, within what is left of the budget
+abbrev pub run_from : Module → ℕ → Frame → Ran
+run_from m zero f = ended Unfinished
+run_from m (suc n) f = goes_on (step m f) (λ g. run_from m n g)
 
--- the run of an accepted program on an input within a budget, from the entry of main and the first bytes; no instruction reads the input yet
-unfoldable pub run : Accepted → List ℕ → ℕ → Ran
-run a input budget = run_from (program_of a) budget (start a.«module» (first_byte a))
+-- the run of a program on an input within a budget; no instruction reads the input yet
+unfoldable pub run : Module → List ℕ → ℕ → Ran
+run m input budget = run_from m budget (start m)

@@ -9,8 +9,6 @@ pub struct Frame {
     pub block: u64,
     /// The place of the next instruction in the block.
     pub at: u64,
-    /// The stack pointer that stood before the call.
-    pub caller_sp: u32,
     /// A number for each register of the function.
     pub registers: List<u64>,
 }

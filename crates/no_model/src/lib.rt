@@ -1,12 +1,8 @@
-//! What programs mean: reading, images, states, steps and runs, as definitions that the other crates cite.
+//! What programs mean: reading, states, steps and runs, as definitions that the other crates cite.
 #![tactic(auto)]
 
-mod accept;
 mod frame;
-mod image;
 mod sound;
 
-pub use accept::{check, width};
 pub use frame::Frame;
-pub use image::Image;
 pub use sound::Sound;

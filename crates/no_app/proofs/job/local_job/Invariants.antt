@@ -12,7 +12,8 @@ invariant-loop-buffer g l =
       so : So l.program (run l.program (input_of (g.I.Source.left l.fn.input)) l.budget) l.budget l.machine (held l.fn.out) (held l.out);
       empty : l.buffer.items ≡ [];
       later : faults l.fn.out ≤ faults l.out;
-      counts : l.steps ≡ record { source = l.fn.steps.source + l.machine.count; part = l.fn.steps.part } }
+      counts : l.steps ≡ record { source = l.fn.steps.source + l.machine.count; part = l.fn.steps.part };
+    }
 
 abbrev pub decreases-loop-buffer : goal.decreases-loop-buffer
 decreases-loop-buffer g l = l.budget - l.machine.count

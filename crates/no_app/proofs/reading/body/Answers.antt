@@ -1,4 +1,3 @@
-use Rattle.std.proofs.Common.{◌≡◌, ◌∙◌, sym, ℕ, List}
 use Rattle.no_model.specs.Reading.{lines_of}
 use Rattle.no_app.proofs.Bodies.{body_more, room_more}
 use Rattle.no_app.proofs.reading.body.Goals as goal
@@ -9,4 +8,5 @@ loop-line-preserved c =
     let whole = rw c.in-Some.ensures.lines at c.loop-line.invariant.reads in
     record {
       reads = body_more c.args.declared _ _ _ _ c.in-Some.line.now (lines_of c.in-Some.more.now) added.0 _ whole c.in_default-after.ensures added.1 added.2;
-      room = room_more _ _ _ _ added.0 c.loop-line.rest.now c.in-Some.more.now _ c.loop-line.invariant.room c.in-Some.ensures.shorter added.2 }
+      room = room_more _ _ _ _ added.0 c.loop-line.rest.now c.in-Some.more.now _ c.loop-line.invariant.room c.in-Some.ensures.shorter added.2;
+    }

@@ -1,4 +1,4 @@
-use Rattle.std.proofs.Common.{◌≡◌, ◌<◌, ◌≤◌, [], ◌∷◌, length, ℕ, sym, ◌∙◌, arith}
+use Rattle.std.proofs.Common.{◌<◌, length, sym, ◌∙◌, arith}
 use Rattle.no_app.proofs.Lines.{lines_last, lines_after, lines_more, full_of_test, full_of_length, empty_of_length}
 use Rattle.no_app.proofs.reading.next_line.Goals as goal
 
@@ -16,7 +16,8 @@ loop-rest-preserved c =
     let shorter : length arm.more.now < length c.loop-rest.rest.now = found.shorter in
     record {
       lines = sym (lines_after c.loop-rest.rest.now (arm.field-0-0.now, arm.more.now) (empty_of_length _ arm.len_below) found.value) ∙ c.loop-rest.invariant.lines;
-      shorter = omega (arith, shorter, c.loop-rest.invariant.shorter) }
+      shorter = omega (arith, shorter, c.loop-rest.invariant.shorter);
+    }
 
 pub returns-in-Some-clause-lines : goal.returns-in-Some-clause-lines
 returns-in-Some-clause-lines c =

@@ -4,8 +4,9 @@ use Rattle.no_app.proofs.reading.next_line.Given as goal
 
 abbrev pub invariant-loop-rest : goal.invariant-loop-rest
 invariant-loop-rest l = record {
-    lines : lines_of l.rest ≡ lines_of l.text;
-    shorter : length l.rest ≤ length l.text }
+  lines : lines_of l.rest ≡ lines_of l.text;
+  shorter : length l.rest ≤ length l.text;
+}
 
 abbrev pub decreases-loop-rest : goal.decreases-loop-rest
 decreases-loop-rest l = length l.rest

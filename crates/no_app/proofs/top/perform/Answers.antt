@@ -15,9 +15,18 @@ returns-in-Done-clause-part g c =
     let holds = rw c.as_str.ensures at c.in-Done.ensures.read.1 in
     let runs = rw c.deref.ensures.value at c.run_text.ensures.part in
     let around : Around = record {
-        job = asked_of c.args.words.now; contents = g.F.Files.contents c.args.files.now; input = g.I.Source.left c.args.input.now;
-        flow = record {
-          held = g.O.Sink.held c.args.out.now; held' = g.O.Sink.held c.run_text.new.out; counted = c.args.steps.now; counted' = c.run_text.new.steps;
-          outs = g.O.Sink.faults c.args.out.now; outs' = g.O.Sink.faults c.run_text.new.out };
-        files = g.F.Files.faults c.args.files.now; files' = g.F.Files.faults c.read.new.self } in
+      job = asked_of c.args.words.now;
+      contents = g.F.Files.contents c.args.files.now;
+      input = g.I.Source.left c.args.input.now;
+      flow = record {
+        held = g.O.Sink.held c.args.out.now;
+        held' = g.O.Sink.held c.run_text.new.out;
+        counted = c.args.steps.now;
+        counted' = c.run_text.new.steps;
+        outs = g.O.Sink.faults c.args.out.now;
+        outs' = g.O.Sink.faults c.run_text.new.out;
+      };
+      files = g.F.Files.faults c.args.files.now;
+      files' = g.F.Files.faults c.read.new.self;
+    } in
     part_text around (request_of c.in-Some.request) _ _ c.in-Some.ensures.value holds runs

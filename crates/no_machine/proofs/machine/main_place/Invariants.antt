@@ -1,5 +1,5 @@
 use Rattle.std.proofs.Common.{◌≡◌, drop}
-use Rattle.no_model.specs.State.{main_from}
+use Rattle.no_semantics.specs.State.{main_from}
 use Rattle.no_machine.proofs.machine.main_place.Given as goal
 
 abbrev pub invariant-loop-index : goal.invariant-loop-index

@@ -1,7 +1,7 @@
 use Rattle.std.proofs.Common.{◌≡◌, true, ◌&&◌, subst}
 use Rattle.no_ir.specs.declared.instruction.Op.{Op}
-use Rattle.no_model.proofs.Facts.{both}
-use Rattle.no_model.specs.Sound.{op_fits, is_scalar, operand_fits}
+use Rattle.no_semantics.proofs.Facts.{both}
+use Rattle.no_semantics.specs.Sound.{op_fits, is_scalar, operand_fits}
 use Rattle.no_machine.proofs.state.Core.act.Goals as goal
 
 pub select-requires-clause-right : goal.select-requires-clause-right

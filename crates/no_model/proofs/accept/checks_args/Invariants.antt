@@ -1,7 +1,0 @@
-use Rattle.std.proofs.Common.{◌≡◌, drop}
-use Rattle.std.specs.List.{list_all}
-use Rattle.no_model.specs.Sound.{operand_fits}
-use Rattle.no_model.proofs.accept.checks_args.Given as goal
-
-abbrev pub invariant-loop-a : goal.invariant-loop-a
-invariant-loop-a l = list_all (λ arg. operand_fits arg.1) l.args ≡ list_all (λ arg. operand_fits arg.1) (drop l.a-index l.args)

@@ -1,0 +1,57 @@
+-- What an accepted module gives the machine.
+use Rattle.std.proofs.Common.{◌≡◌, ℕ, inl, inr, Bool, true, false, ◌&&◌, IsTrue, List, slice_get, get_or, Option, Some, None, refl, ◌∙◌, ap}
+use Rattle.std.specs.Option.{IfSome}
+use Rattle.std.specs.List.{list_all}
+use Rattle.std.proofs.lemmas.Bool.{cases_Bool}
+use Rattle.std.proofs.lemmas.List.Folds.{list_all_at}
+use Rattle.std.proofs.lemmas.Option.{slice_get_within, get_or_from_slice_get}
+use Rattle.no_ir.specs.declared.instruction.Instr.{Instr}
+use Rattle.no_ir.specs.declared.function.Block.{Block}
+use Rattle.no_ir.specs.declared.function.Function.{Function}
+use Rattle.no_ir.specs.declared.function.Module.{Module}
+use Rattle.no_layout.specs.Text.{is_formed}
+use Rattle.no_layout.specs.declared.extent.Extent.{Extent}
+use Rattle.no_layout.specs.declared.layout.Layout.{Layout}
+use Rattle.no_semantics.specs.declared.frame.Frame.{Frame}
+use Rattle.no_semantics.specs.Sound.{is_sound, op_fits, block_fits, function_fits}
+use Rattle.no_semantics.specs.State.{instr_at, instr_in, block_at}
+
+pub both : (a b : Bool) → (a && b) ≡ true → (a ≡ true) × (b ≡ true)
+both true b e = (refl, e)
+both false b e = absurd cc
+
+true_is : (b : Bool) → b ≡ true → IsTrue b
+true_is b e = e
+
+each_at : {A : Type 0} (p : A → Bool) (xs : List A) (k : ℕ) (x : A) → list_all p xs ≡ true → slice_get xs k ≡ Some x → p x ≡ true
+each_at p xs k x all is = elim (cases_Bool (p x)) [
+  | inl holds ↦ holds
+  | inr fails ↦
+      let at : get_or xs k x ≡ x = get_or_from_slice_get xs k x x is in
+      let some : list_all p xs ≡ false = list_all_at p xs k x (slice_get_within xs k x is) (ap p at ∙ fails) in
+      absurd cc
+]
+
+pub layout_formed : (m : Module) (l : Layout) (sizes : List Extent) → is_sound m l sizes ≡ true → IsTrue (is_formed l)
+unfolding is_sound
+layout_formed m l sizes e = true_is (is_formed l) (both (is_formed l) (list_all (function_fits l sizes) m.functions) e).0
+
+in_block : (l : Layout) (sizes : List Extent) (b : Block) (k : ℕ) (o : Option Instr) → slice_get b.instrs k ≡ o → block_fits l sizes b ≡ true
+    → IfSome o (λ i. op_fits l sizes i.op ≡ true)
+in_block l sizes b k None is e = tt
+in_block l sizes b k (Some i) is e = each_at (λ (i : Instr). op_fits l sizes i.op) b.instrs k i e is
+
+in_function : (l : Layout) (sizes : List Extent) (f : Function) (b k : ℕ) (o : Option Block) → slice_get f.blocks b ≡ o → function_fits l sizes f ≡ true
+    → IfSome (instr_in o k) (λ i. op_fits l sizes i.op ≡ true)
+in_function l sizes f b k None is e = tt
+in_function l sizes f b k (Some block) is e = in_block l sizes block k (slice_get block.instrs k) refl (each_at (block_fits l sizes) f.blocks b block e is)
+
+in_module : (m : Module) (l : Layout) (sizes : List Extent) (g b k : ℕ) (o : Option Function) → slice_get m.functions g ≡ o → list_all (function_fits l sizes) m.functions ≡ true
+    → IfSome (instr_in (block_at o b) k) (λ i. op_fits l sizes i.op ≡ true)
+in_module m l sizes g b k None is e = tt
+in_module m l sizes g b k (Some f) is e = in_function l sizes f b k (slice_get f.blocks b) refl (each_at (function_fits l sizes) m.functions g f e is)
+
+pub instr_fits : (m : Module) (l : Layout) (sizes : List Extent) (at : Frame) → is_sound m l sizes ≡ true → IfSome (instr_at m at) (λ i. op_fits l sizes i.op ≡ true)
+unfolding is_sound
+instr_fits m l sizes at e =
+    in_module m l sizes at.function at.block at.at (slice_get m.functions at.function) refl (both (is_formed l) (list_all (function_fits l sizes) m.functions) e).1

@@ -1,0 +1,9 @@
+pub mod Lists
+pub mod Accepted
+pub mod Image
+pub mod Sound
+pub mod Values
+pub mod State
+pub mod Step
+pub mod First
+pub mod Run

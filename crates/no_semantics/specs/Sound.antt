@@ -1,0 +1,110 @@
+-- Modules of which a machine runs each instruction.
+use Rattle.std.specs.Prelude.{ℕ, Bool, true, false, ◌&&◌, ◌||◌, ◌==◌, nat_lt, List, [], ◌∷◌, Option, Some, None}
+use Rattle.std.specs.List.{list_all}
+use Rattle.no_ir.specs.declared.types.Ty.{Ty, out-Ty}
+use Rattle.no_ir.specs.declared.types.Ty.TheOpen.{Ty-F}
+use Rattle.no_ir.specs.declared.constant.Const.{Const}
+use Rattle.no_ir.specs.declared.constant.Const.TheVariants as const
+use Rattle.no_ir.specs.declared.constant.Place.{Place}
+use Rattle.no_ir.specs.declared.instruction.CastOp.{CastOp}
+use Rattle.no_ir.specs.declared.instruction.CastOp.TheVariants as cast
+use Rattle.no_ir.specs.declared.instruction.Operand.{Operand}
+use Rattle.no_ir.specs.declared.instruction.Operand.TheVariants as operand
+use Rattle.no_ir.specs.declared.instruction.Op.{Op}
+use Rattle.no_ir.specs.declared.instruction.Op.TheVariants as op
+use Rattle.no_ir.specs.declared.instruction.Instr.{Instr}
+use Rattle.no_ir.specs.declared.function.Block.{Block}
+use Rattle.no_ir.specs.declared.function.Function.{Function}
+use Rattle.no_ir.specs.declared.function.Module.{Module}
+use Rattle.no_layout.specs.Sizes.{measure_of}
+use Rattle.no_layout.specs.Text.{is_formed}
+use Rattle.no_layout.specs.declared.extent.Extent.{Extent}
+use Rattle.no_layout.specs.declared.layout.Layout.{Layout}
+use Rattle.no_semantics.specs.Lists.{is_empty}
+use Rattle.no_semantics.specs.Values.{width_of}
+
+-- ---- types
+
+abbrev pub is_width : ℕ → Bool
+is_width w = w == 1 || (w == 8 || (w == 16 || (w == 32 || w == 64)))
+
+abbrev pub is_scalar_step : Ty-F Ty → Bool
+is_scalar_step (Ty-F.Int w) = is_width w
+is_scalar_step Ty-F.Ptr = true
+is_scalar_step _ = false
+
+-- an integer type or ptr
+abbrev pub is_scalar : Ty → Bool
+is_scalar t = is_scalar_step (out-Ty t)
+
+-- the type and each type inside it has at most 0x1000_0000 bytes
+abbrev pub type_fits : Layout → List Extent → Ty → Bool
+type_fits l sizes t = (measure_of l sizes t).fits
+
+-- the widths that a conversion goes between
+abbrev pub goes_between : CastOp → ℕ → ℕ → Bool
+goes_between cast.Trunc from to = nat_lt to from
+goes_between cast.ZExt from to = nat_lt from to
+goes_between cast.SExt from to = nat_lt from to
+goes_between cast.PtrToInt from to = true
+goes_between cast.IntToPtr from to = true
+goes_between cast.BitCast from to = from == to
+
+-- ---- operands: a register, a number, null, or the bare name of a global or function
+
+abbrev pub is_bare : Place → Bool
+is_bare place = is_empty place.indices
+
+abbrev pub constant_fits : Const → Bool
+constant_fits (const.Address place) = is_bare place
+constant_fits (const.AddressAsInt place) = is_bare place
+constant_fits _ = true
+
+abbrev pub operand_fits : Operand → Bool
+operand_fits (operand.Reg r) = true
+operand_fits (operand.Const c) = constant_fits c
+
+-- ---- instructions
+
+abbrev pub count_fits : Option (ℕ × Operand) → Bool
+count_fits None = true
+count_fits (Some count) = is_width count.0 && operand_fits count.1
+
+-- a stated alignment is at least 1
+abbrev pub align_fits : Option ℕ → Bool
+align_fits None = true
+align_fits (Some align) = nat_lt 0 align
+
+-- one index
+abbrev pub indices_fit : List (ℕ × Operand) → Bool
+indices_fit (index ∷ []) = is_width index.0 && operand_fits index.1
+indices_fit _ = false
+
+abbrev pub args_fit : List (Ty × Operand) → Bool
+args_fit args = list_all (λ arg. operand_fits arg.1) args
+
+abbrev pub op_fits : Layout → List Extent → Op → Bool
+op_fits l sizes (op.Binary o w a b) = is_width w && (operand_fits a && operand_fits b)
+op_fits l sizes (op.Compare o t a b) = is_scalar t && (operand_fits a && operand_fits b)
+op_fits l sizes (op.Cast o t a u) = (is_scalar t && is_scalar u) && (goes_between o (width_of l t) (width_of l u) && operand_fits a)
+op_fits l sizes (op.Freeze t a) = is_scalar t && operand_fits a
+op_fits l sizes (op.Select c t a b) = (is_scalar t && operand_fits c) && (operand_fits a && operand_fits b)
+op_fits l sizes (op.Alloca t count align) = type_fits l sizes t && (count_fits count && align_fits align)
+op_fits l sizes (op.Load volatile t a) = is_scalar t && operand_fits a
+op_fits l sizes (op.Store volatile t v a) = is_scalar t && (operand_fits v && operand_fits a)
+op_fits l sizes (op.Gep t a indices) = type_fits l sizes t && (operand_fits a && indices_fit indices)
+op_fits l sizes (op.Call t g args) = args_fit args
+op_fits l sizes (op.Ret (Some x)) = is_scalar x.0 && operand_fits x.1
+op_fits l sizes _ = false
+
+-- ---- modules
+
+abbrev pub block_fits : Layout → List Extent → Block → Bool
+block_fits l sizes b = list_all (λ (i : Instr). op_fits l sizes i.op) b.instrs
+
+abbrev pub function_fits : Layout → List Extent → Function → Bool
+function_fits l sizes f = list_all (block_fits l sizes) f.blocks
+
+-- the layout is one that a layout string states, and a machine runs each instruction
+unfoldable pub is_sound : Module → Layout → List Extent → Bool
+is_sound m l sizes = is_formed l && list_all (function_fits l sizes) m.functions

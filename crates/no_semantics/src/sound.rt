@@ -1,0 +1,101 @@
+ghost use Rattle.std.specs.Prelude.{◌≡◌, ◌+◌, ◌<◌, ◌^◌, IsTrue, OnSome, true};
+ghost use Rattle.std.specs.Option.{option_copied, IfSome};
+ghost use Rattle.no_layout.specs.Text.{is_formed};
+ghost use Rattle.no_semantics.specs.Sound.{is_sound, op_fits};
+ghost use Rattle.no_semantics.specs.State.{instr_at};
+
+use crate::Frame;
+use no_ir::{Instr, Module, Role};
+use no_layout::{Layout, Sizes};
+use std::marker::Model;
+
+/// A module that was accepted, with its data layout, the sizes of its named types, and its role.
+#[derive(Drop)]
+pub struct Sound {
+    inner: Module,
+    layout: Layout,
+    sizes: Sizes,
+    role: Role,
+}
+
+impl Model for Sound {
+    ghost use Rattle.std.specs.Prelude.{◌≡◌, true};
+    ghost use Rattle.no_semantics.specs.Accepted.{Accepted};
+    ghost use Rattle.no_semantics.specs.Sound.{is_sound};
+
+    ghost Value = { Accepted };
+
+    ghost use Rattle.no_ir.specs.contracts.types.Ty as types;
+    ghost use Rattle.no_ir.specs.contracts.constant.Const as constants;
+    ghost use Rattle.std.specs.Coded.{codes};
+
+    ghost coded = { Prim.hlevel (codes, types.the_row.coded, constants.the_row.coded) };
+
+    ghost view = { λ s. record { «module» = s.inner; layout = s.layout; sizes = s.sizes; role = s.role } };
+
+    ghost invariant = { λ s. is_sound s.inner s.layout s.sizes ≡ true };
+}
+
+impl Sound {
+    /// The module with its layout, the sizes that `Layout::sizes` gives for its types, and its role. It takes no memory.
+    pub fn of(program: Module, layout: Layout, sizes: Sizes, role: Role) -> Sound
+        requires { is_sound program layout sizes ≡ true }
+        ensures { result ≡ record { «module» = program; layout = layout; sizes = sizes; role = role } }
+    {
+        Sound {
+            inner: program,
+            layout,
+            sizes,
+            role,
+        }
+    }
+
+    pub fn module(&self) -> &Module
+        ensures value { result.now ≡ self.now.«module» }
+        ensures sound { is_sound result.now self.now.layout self.now.sizes ≡ true }
+    {
+        &self.inner
+    }
+
+    /// The layout that the module's string states.
+    pub fn layout(&self) -> &Layout
+        ensures value { result.now ≡ self.now.layout }
+        ensures formed { IsTrue (is_formed result.now) }
+    {
+        &self.layout
+    }
+
+    /// The sizes of the module's named types under its layout.
+    pub fn sizes(&self) -> &Sizes
+        ensures { result.now ≡ self.now.sizes }
+    {
+        &self.sizes
+    }
+
+    pub fn role(&self) -> Role
+        ensures { result ≡ self.now.role }
+    {
+        self.role
+    }
+
+    /// The instruction at which a frame stands, which a machine runs.
+    pub fn instr(&self, frame: &Frame) -> Option<&Instr>
+        ensures value { option_copied result ≡ instr_at self.now.«module» frame.now }
+        ensures fits { IfSome (option_copied result) (λ i. op_fits self.now.layout self.now.sizes i.op ≡ true) }
+        ensures within { OnSome result (frame.now.at + 1 < 2 ^ 64) }
+    {
+        fetch(&self.inner, frame)
+    }
+}
+
+/// The instruction at which a frame stands.
+fn fetch<'a>(program: &'a Module, frame: &Frame) -> Option<&'a Instr>
+    ensures value { option_copied result ≡ instr_at program.now frame.now }
+    ensures within { OnSome result (frame.now.at + 1 < 2 ^ 64) }
+{
+    let function = program.functions.get(frame.function as usize)?;
+    let block = function.blocks.get(frame.block as usize)?;
+    let instr = block.instrs.get(frame.at as usize)?;
+    let _count = block.instrs.len();
+    Some(instr)
+}

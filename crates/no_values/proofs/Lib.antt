@@ -1,0 +1,3 @@
+pub mod ConstLaws
+pub mod Depths
+pub mod PlaceLaws
