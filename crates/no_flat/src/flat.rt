@@ -99,7 +99,7 @@ impl FlatMemory {
 }
 
 impl Memory for FlatMemory {
-    ghost use Rattle.std.specs.Prelude.{true};
+    ghost use Rattle.std.specs.Prelude.{◌≡◌, IsOk, true};
     ghost use Rattle.no_flat.specs.FlatBytes.{byte_of, regions_of};
 
     ghost regions = { regions_of };
@@ -139,7 +139,11 @@ impl Memory for FlatMemory {
         }
     }
 
-    fn prepare(&mut self, _page: u32) -> Result<(), NoMemory> {
+    /// Every page is ready from the beginning, so that this takes no memory.
+    fn prepare(&mut self, _page: u32) -> Result<(), NoMemory>
+        ensures done { IsOk result }
+        ensures same { self.new ≡ self.old }
+    {
         Ok(())
     }
 }
