@@ -1,6 +1,6 @@
 -- The ends of globals do not fall as more of them are placed.
-use Rattle.std.proofs.Common.{◌≡◌, ℕ, zero, suc, ◌+◌, ◌-◌, ◌%◌, ◌*◌, ◌<◌, ◌≤◌, ◌⊎◌, inl, inr, Bool, true, false, ◌&&◌, nat_le, List, [], ◌∷◌, ◌++◌, take, drop, get_or, length, Option, Some, None, refl, sym, ap, subst, ◌∙◌, arith, append_assoc, if◌then◌else◌}
-use Rattle.std.specs.List.{fold, list_all}
+use Rattle.std.proofs.Common.{◌≡◌, ℕ, suc, ◌+◌, ◌-◌, ◌%◌, ◌<◌, ◌≤◌, inl, inr, Bool, true, false, nat_le, List, [], ◌∷◌, ◌++◌, take, drop, get_or, length, refl, sym, ap, ◌∙◌, arith, append_assoc, if◌then◌else◌}
+use Rattle.std.specs.List.{list_all}
 use Rattle.std.proofs.lemmas.Bool.{cases_Bool, lt-leb, leb-true}
 use Rattle.std.proofs.Math.Seq.{drop-cons, take-add}
 use Rattle.std.proofs.lemmas.List.{take-append-drop}
@@ -30,8 +30,9 @@ through a b c h k = omega arith
 -- one global more does not lower the end
 pub grows_by : (l : Layout) (sizes : List Extent) (kind : Bool) (end : ℕ) (g : GlobalVar) → end ≤ end_with l sizes kind end g
 grows_by l sizes kind end g = elim (cases_Bool (same_kind kind g.constant)) [
-    inl is ↦ rw is (far end ((global_align l sizes g - end % global_align l sizes g) % global_align l sizes g) (type_size l sizes g.ty))
-  | inr other ↦ rw other (same end) ]
+  | inl is ↦ rw is (far end ((global_align l sizes g - end % global_align l sizes g) % global_align l sizes g) (type_size l sizes g.ty))
+  | inr other ↦ rw other (same end)
+]
 
 -- nor do many
 pub grows : (l : Layout) (sizes : List Extent) (kind : Bool) (end : ℕ) (gs : List GlobalVar) → end ≤ end_of l sizes kind end gs
@@ -43,7 +44,7 @@ pub first_below : (l : Layout) (sizes : List Extent) (kind : Bool) (start : ℕ)
     → end_of l sizes kind start (take k gs) ≤ end_of l sizes kind start gs
 first_below l sizes kind start gs k =
     let whole : end_of l sizes kind start gs ≡ end_of l sizes kind (end_of l sizes kind start (take k gs)) (drop k gs) =
-        ap (end_of l sizes kind start) (sym (take-append-drop k gs)) ∙ fold-append (end_with l sizes kind) start (take k gs) (drop k gs) in
+    ap (end_of l sizes kind start) (sym (take-append-drop k gs)) ∙ fold-append (end_with l sizes kind) start (take k gs) (drop k gs) in
     rw whole (grows l sizes kind (end_of l sizes kind start (take k gs)) (drop k gs))
 
 -- the end of one global more
@@ -54,8 +55,9 @@ next_end l sizes kind start gs k g lt is = fold_more (end_with l sizes kind) sta
 -- a test that holds of all holds of each
 pub fits_at : (p : GlobalVar → Bool) (gs : List GlobalVar) (k : ℕ) (g : GlobalVar) → list_all p gs ≡ true → k < length gs → g ≡ get_or gs k g → p g ≡ true
 fits_at p gs k g all lt is = elim (cases_Bool (p g)) [
-    inl holds ↦ holds
-  | inr fails ↦ (let some : list_all p gs ≡ false = list_all_at p gs k g lt (ap p (sym is) ∙ fails) in absurd cc) ]
+  | inl holds ↦ holds
+  | inr fails ↦ (let some : list_all p gs ≡ false = list_all_at p gs k g lt (ap p (sym is) ∙ fails) in absurd cc)
+]
 
 -- where one of the ends is past the limit, so is the last
 pub passed : (l : Layout) (sizes : List Extent) (kind : Bool) (start : ℕ) (gs : List GlobalVar) (k : ℕ) (g : GlobalVar) (before end : ℕ)
@@ -94,14 +96,14 @@ pub constants_low : (l : Layout) (sizes : List Extent) (gs : List GlobalVar) (k 
     → end_of l sizes true constants_start (take k gs) ≤ globals_limit
 constants_low l sizes gs k e =
     through (end_of l sizes true constants_start (take k gs)) (constants_end_of l sizes gs) globals_limit
-      (first_below l sizes true constants_start gs k)
-      (through (constants_end_of l sizes gs) (regions_of l sizes gs).globals_end globals_limit (constants_below l sizes gs) (ends_low l sizes gs e))
+    (first_below l sizes true constants_start gs k)
+    (through (constants_end_of l sizes gs) (regions_of l sizes gs).globals_end globals_limit (constants_below l sizes gs) (ends_low l sizes gs e))
 
 pub writable_low : (l : Layout) (sizes : List Extent) (gs : List GlobalVar) (k : ℕ) → image_fits l sizes gs ≡ true
     → end_of l sizes false (globals_start_of l sizes gs) (take k gs) ≤ globals_limit
 writable_low l sizes gs k e =
     through (end_of l sizes false (globals_start_of l sizes gs) (take k gs)) (regions_of l sizes gs).globals_end globals_limit
-      (first_below l sizes false (globals_start_of l sizes gs) gs k) (ends_low l sizes gs e)
+    (first_below l sizes false (globals_start_of l sizes gs) gs k) (ends_low l sizes gs e)
 
 -- the end of a global's own kind among the first k
 pub kind_end : (l : Layout) (sizes : List Extent) (gs before : List GlobalVar) (b : Bool) (c w : ℕ)
@@ -125,9 +127,9 @@ pub place_low : (l : Layout) (sizes : List Extent) (gs : List GlobalVar) (k : �
 place_low l sizes gs k g e lt is =
     let start = start_of l sizes gs g.constant in
     let next : end_of l sizes g.constant start (take (k + 1) gs) ≡ end_with l sizes g.constant (end_of l sizes g.constant start (take k gs)) g =
-        next_end l sizes g.constant start gs k g lt (sym is) in
+    next_end l sizes g.constant start gs k g lt (sym is) in
     let step : place_behind l sizes (end_of l sizes g.constant start (take k gs)) g ≤ end_with l sizes g.constant (end_of l sizes g.constant start (take k gs)) g =
-        rw (own_kind g.constant) (above (place_behind l sizes (end_of l sizes g.constant start (take k gs)) g) (type_size l sizes g.ty)) in
+    rw (own_kind g.constant) (above (place_behind l sizes (end_of l sizes g.constant start (take k gs)) g) (type_size l sizes g.ty)) in
     let low : end_of l sizes g.constant start (take (k + 1) gs) ≤ globals_limit = kind_low l sizes gs g.constant (k + 1) e in
     omega (arith, next, step, low)
 
@@ -147,3 +149,12 @@ listed_next l sizes gs k at g all lt is here listed =
     ∙ ap (λ (a : ℕ). all ++ a ∷ addresses_behind l sizes gs (take k gs ++ g ∷ []) (drop (k + 1) gs)) (sym here)
     ∙ ap (λ (before : List GlobalVar). all ++ at ∷ addresses_behind l sizes gs before (drop (k + 1) gs)) (sym front)
     ∙ sym (append_assoc all (at ∷ []) (addresses_behind l sizes gs (take (k + 1) gs) (drop (k + 1) gs)))
+
+pub all_fit : (l : Layout) (sizes : List Extent) (gs : List GlobalVar) → image_fits l sizes gs ≡ true → globals_fit l sizes gs ≡ true
+all_fit l sizes gs e = (both (globals_fit l sizes gs) (nat_le (regions_of l sizes gs).globals_end globals_limit) e).0
+
+pub constants_end_low : (l : Layout) (sizes : List Extent) (gs : List GlobalVar) → image_fits l sizes gs ≡ true → constants_end_of l sizes gs ≤ globals_limit
+constants_end_low l sizes gs e = through (constants_end_of l sizes gs) (regions_of l sizes gs).globals_end globals_limit (constants_below l sizes gs) (ends_low l sizes gs e)
+
+pub start_low : (l : Layout) (sizes : List Extent) (gs : List GlobalVar) → image_fits l sizes gs ≡ true → globals_start_of l sizes gs ≤ globals_limit
+start_low l sizes gs e = through (globals_start_of l sizes gs) (regions_of l sizes gs).globals_end globals_limit (grows l sizes false (globals_start_of l sizes gs) gs) (ends_low l sizes gs e)

@@ -1,4 +1,4 @@
--- Modules of which an image can be made, and what the image is.
+-- Modules of which an image can be made.
 use Rattle.std.specs.Prelude.{◌≡◌, ◌≤◌, ◌<◌, ℕ, Bool, true, false, ◌&&◌, nat_le, List, Option, Some, None}
 use Rattle.std.specs.List.{list_all}
 use Rattle.no_ir.specs.declared.types.Ty.{Ty}
@@ -8,11 +8,8 @@ use Rattle.no_ir.specs.declared.function.GlobalVar.{GlobalVar}
 use Rattle.no_layout.specs.Memory.{globals_limit}
 use Rattle.no_layout.specs.declared.extent.Extent.{Extent}
 use Rattle.no_layout.specs.declared.layout.Layout.{Layout}
-use Rattle.no_semantics.specs.Accepted.{Accepted}
-use Rattle.no_semantics.specs.First.{program_of, pieces_of}
-use Rattle.no_semantics.specs.Image.{regions_of, constants_end_of, end_of, globals_start_of}
+use Rattle.no_semantics.specs.Image.{regions_of}
 use Rattle.no_semantics.specs.Sound.{is_scalar, type_fits, align_fits}
-use Rattle.no_semantics.specs.declared.image.Image.{Image}
 
 -- an initialiser is zeros, or an integer of an integer type or a pointer
 abbrev pub init_fits : Ty → Const → Bool
@@ -35,9 +32,3 @@ image_fits l sizes globals = globals_fit l sizes globals && nat_le (regions_of l
 abbrev pub IsEnd : Option ℕ → ℕ → Type 0
 IsEnd None end = globals_limit < end
 IsEnd (Some e) end = (e ≡ end) × (end ≤ globals_limit)
-
--- an image is that of a module
-pub record IsImage (a : Accepted) (image : Image) : Type 0 where
-  pub addresses : image.addresses ≡ (program_of a).addresses
-  pub regions : image.regions ≡ (program_of a).regions
-  pub pieces : image.pieces ≡ pieces_of a

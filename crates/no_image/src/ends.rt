@@ -14,7 +14,8 @@ pub fn fits(sound: &Sound) -> bool
     ensures { result ≡ image_fits sound.now.layout sound.now.sizes sound.now.«module».globals }
 {
     let globals = sound.module().globals.as_slice();
-    are_fit(sound.layout(), sound.sizes(), globals) && ends_fit(sound.layout(), sound.sizes(), globals)
+    are_fit(sound.layout(), sound.sizes(), globals)
+        && ends_fit(sound.layout(), sound.sizes(), globals)
 }
 
 fn are_fit(layout: &Layout, sizes: &Sizes, globals: &[GlobalVar]) -> bool
@@ -98,7 +99,13 @@ pub(crate) fn place(layout: &Layout, sizes: &Sizes, end: u64, global: &GlobalVar
 }
 
 /// The end with one global more.
-pub(crate) fn end_behind(layout: &Layout, sizes: &Sizes, kind: bool, end: u64, global: &GlobalVar) -> u64
+pub(crate) fn end_behind(
+    layout: &Layout,
+    sizes: &Sizes,
+    kind: bool,
+    end: u64,
+    global: &GlobalVar,
+) -> u64
     requires formed { IsTrue (is_formed layout.now) }
     requires fits { global_fits layout.now sizes.now global.now ≡ true }
     requires low { end ≤ globals_limit }
@@ -112,7 +119,13 @@ pub(crate) fn end_behind(layout: &Layout, sizes: &Sizes, kind: bool, end: u64, g
 }
 
 /// The end of the globals of a kind, where it is at most `0x0200_0000`.
-pub(crate) fn end_of_all(layout: &Layout, sizes: &Sizes, kind: bool, start: u64, globals: &[GlobalVar]) -> Option<u64>
+pub(crate) fn end_of_all(
+    layout: &Layout,
+    sizes: &Sizes,
+    kind: bool,
+    start: u64,
+    globals: &[GlobalVar],
+) -> Option<u64>
     requires formed { IsTrue (is_formed layout.now) }
     requires fits { globals_fit layout.now sizes.now globals.now ≡ true }
     requires low { start ≤ globals_limit }
@@ -142,6 +155,7 @@ fn ends_fit(layout: &Layout, sizes: &Sizes, globals: &[GlobalVar]) -> bool
             false,
             constants.next_multiple_of(65_536),
             globals,
-        ).is_some(),
+        )
+        .is_some(),
     }
 }

@@ -1,7 +1,8 @@
-//! The first memory of an accepted module: addresses, ends and first bytes.
+//! Where the constants and globals of an accepted module stand.
 #![tactic(auto)]
 
-mod addresses;
 mod ends;
+mod placement;
 
 pub use ends::fits;
+pub use placement::{addresses, regions};

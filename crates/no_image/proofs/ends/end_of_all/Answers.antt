@@ -1,4 +1,4 @@
-use Rattle.std.proofs.Common.{◌≡◌, ◌<◌, ◌≤◌, ℕ, arith}
+use Rattle.std.proofs.Common.{◌<◌, ◌≤◌, arith}
 use Rattle.no_layout.specs.Memory.{globals_limit}
 use Rattle.no_image.specs.Fits.{global_fits}
 use Rattle.no_image.proofs.Placed.{fits_at, passed, went_on}
@@ -12,13 +12,13 @@ pub returns-then-end-from : goal.returns-then-end-from
 returns-then-end-from c =
     let over : globals_limit < c.end_behind-end.result = omega (arith, c.if-end-from.true, c.from.ensures) in
     passed c.args.layout.now c.args.sizes.now c.args.kind c.args.start c.args.globals.now c.loop-global.global-index c.global-item.result c.loop-global.end c.end_behind-end.result
-      c.loop-global-test.true c.global-item.is c.loop-global.invariant.value c.end_behind-end.ensures over
+    c.loop-global-test.true c.global-item.is c.loop-global.invariant.value c.end_behind-end.ensures over
 
 pub loop-global-preserved : goal.loop-global-preserved
 loop-global-preserved c =
     let low : c.end_behind-end.result ≤ globals_limit = omega (arith, c.if-end-from.false, c.from.ensures) in
     record {
       value = went_on c.args.layout.now c.args.sizes.now c.args.kind c.args.start c.args.globals.now c.loop-global.global-index c.global-item.result c.loop-global.end c.end_behind-end.result
-        c.loop-global-test.true c.global-item.is c.loop-global.invariant.value c.end_behind-end.ensures;
+          c.loop-global-test.true c.global-item.is c.loop-global.invariant.value c.end_behind-end.ensures;
       low = low;
     }

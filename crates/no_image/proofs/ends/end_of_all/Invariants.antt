@@ -6,5 +6,5 @@ use Rattle.no_image.proofs.ends.end_of_all.Given as goal
 abbrev pub invariant-loop-global : goal.invariant-loop-global
 invariant-loop-global l = record {
   value : l.end ≡ end_of l.layout l.sizes l.kind l.start (take l.global-index l.globals);
-  low : l.end ≤ globals_limit
+  low : l.end ≤ globals_limit;
 }

@@ -7,4 +7,4 @@ use Rattle.no_image.proofs.ends.ends_fit.Goals as goal
 pub returns-in-None : goal.returns-in-None
 returns-in-None c =
     sym (late c.args.layout.now c.args.sizes.now c.args.globals.now
-      (subst (λ (start : ℕ). globals_limit < end_of c.args.layout.now c.args.sizes.now true start c.args.globals.now) c.from.ensures c.in-None.ensures))
+    (subst (λ (start : ℕ). globals_limit < end_of c.args.layout.now c.args.sizes.now true start c.args.globals.now) c.from.ensures c.in-None.ensures))
