@@ -1,8 +1,5 @@
-pub mod Lines
-pub mod Bodies
-pub mod Sums
-pub mod Stepping
+pub mod Programs
+pub mod Starting
 pub mod Jobs
 pub mod LastLines
 pub mod Outcomes
-pub mod Registers

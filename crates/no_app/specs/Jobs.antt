@@ -1,12 +1,16 @@
 -- What a job says of its run.
 use Rattle.std.specs.Prelude.{◌≡◌, ℕ, ◌+◌, ◌≤◌, List, Option, Some, None, unwrap_or, []}
 use Rattle.no_ports.specs.Meanings.{Adds, AddsPrefix}
-use Rattle.no_model.specs.Run.{Ran}
-use Rattle.no_app.specs.Counted.{Counted}
+use Rattle.no_flat.specs.declared.flat.FlatMemory.{FlatMemory}
+use Rattle.no_flat.specs.FlatBytes.{byte_of, regions_of}
+use Rattle.no_machine.specs.Counted.{Counted}
+use Rattle.no_machine.specs.Running.{rest_of, count_of, budget_of, end_of}
+use Rattle.no_machine.specs.declared.machine.Machine.{Machine}
+use Rattle.no_semantics.specs.Accepted.{Accepted}
+use Rattle.no_semantics.specs.Run.{Ran, run}
 use Rattle.no_app.specs.declared.report.Report.{Report}
 use Rattle.no_app.specs.declared.job.JobEnd.{JobEnd}
 use Rattle.no_app.specs.declared.job.JobEnd.TheVariants as job
-use Rattle.no_app.specs.declared.machine.Machine.{Machine}
 use Rattle.no_app.specs.declared.job.Worked.{Worked}
 use Rattle.no_app.specs.declared.job.Worked.TheVariants as worked
 
@@ -41,8 +45,23 @@ Counts job.NoMemory count old new = (new.part ≡ old.part) × (old.source ≤ n
 abbrev pub input_of : Option (List ℕ) → List ℕ
 input_of left = unwrap_or left []
 
+-- ---- a machine over a memory with all its pages
+
+abbrev pub Flat : Type 0
+Flat = Machine FlatMemory
+
+-- what is left of its run
+abbrev pub rest : Accepted → Flat → Ran
+rest a m = rest_of regions_of byte_of a m
+
+-- at the beginning of a run
+pub record IsAtStart (a : Accepted) (input : List ℕ) (budget : ℕ) (m : Flat) : Type 0 where
+  pub whole : rest a m ≡ run a input budget
+  pub counted_none : count_of m ≡ 0
+  pub limit : budget_of m ≡ budget
+
 -- what a slice of work came to
-abbrev pub Works : Worked → Machine → Machine → Type 0
-Works worked.Working old new = old.count + 1 ≤ new.count
-Works (worked.Ended e) old new = new.end ≡ Some e
+abbrev pub Works : Worked → Flat → Flat → Type 0
+Works worked.Working old new = count_of old + 1 ≤ count_of new
+Works (worked.Ended e) old new = end_of new ≡ Some e
 Works worked.NoMemory old new = Unit {0}

@@ -1,7 +1,4 @@
-pub mod Refused
-pub mod Counted
-pub mod Acted
-pub mod Running
+pub mod Programs
 pub mod Jobs
 pub mod Words
 pub mod Requests

@@ -1,13 +1,16 @@
 -- Outcomes: the status and the last line of each, and when each comes.
-use Rattle.std.specs.Prelude.{◌≡◌, ℕ, ◌+◌, ◌≤◌, List, [], ◌++◌, Option, Some, None, codes, decimal, IfSome, ◌⊎◌}
+use Rattle.std.specs.Prelude.{◌≡◌, ℕ, ◌+◌, ◌≤◌, List, ◌++◌, Option, Some, None, Result, Ok, Err, codes, decimal, IfSome, ◌⊎◌}
 use Rattle.no_ports.specs.Meanings.{Rose, Adds, AddsPrefix}
 use Rattle.no_ir.specs.declared.ending.End.{End}
 use Rattle.no_ir.specs.declared.ending.End.TheVariants as end
 use Rattle.no_ir.specs.Ending.{trap_number, trap_name}
-use Rattle.no_ir.specs.declared.function.Module.{Module}
-use Rattle.no_model.specs.Reading.{module_of}
-use Rattle.no_model.specs.Run.{Ran, run}
-use Rattle.no_app.specs.Counted.{Counted}
+use Rattle.no_layout.specs.declared.fault.LayoutFault.{LayoutFault}
+use Rattle.no_layout.specs.declared.fault.LayoutKind.{LayoutKind}
+use Rattle.no_layout.specs.declared.fault.LayoutKind.TheVariants as layout
+use Rattle.no_machine.specs.Counted.{Counted}
+use Rattle.no_semantics.specs.Accepted.{Accepted}
+use Rattle.no_semantics.specs.Run.{Ran, run}
+use Rattle.no_app.specs.Programs.{program_of}
 use Rattle.no_app.specs.Words.{Asked}
 use Rattle.no_app.specs.Jobs.{input_of}
 use Rattle.no_app.specs.declared.job.JobEnd.{JobEnd}
@@ -34,8 +37,17 @@ status_of outcome.WriteFault = 118
 abbrev pub read_words : ReadFault → List ℕ
 read_words (reads.LeftOut at word) = codes "read 2 at " ++ decimal at
 
+abbrev pub layout_number : LayoutKind → ℕ
+layout_number layout.NoOrder = 1
+layout_number layout.BadWidth = 2
+layout_number layout.BadSpec = 3
+
+abbrev pub layout_words : LayoutFault → List ℕ
+layout_words fault = codes "layout " ++ decimal (layout_number fault.kind) ++ codes " at " ++ decimal fault.at
+
 abbrev pub module_words : ModuleFault → List ℕ
 module_words (modules.Read fault) = read_words fault
+module_words (modules.Layout fault) = layout_words fault
 
 -- what stands between `nativeoff: ` and the line feed
 abbrev pub words_of : Outcome → List ℕ
@@ -89,10 +101,10 @@ abbrev pub OnJob : Option Asked → (Asked → Type 0) → Type 0
 OnJob None P = ⊥
 OnJob (Some asked) P = P asked
 
--- a fact of the module that a text means, which it has to mean
-abbrev pub OnModule : Option Module → (Module → Type 0) → Type 0
-OnModule None P = ⊥
-OnModule (Some m) P = P m
+-- a fact of the program that a text means, which it has to mean
+abbrev pub OnProgram : Result Accepted ModuleFault → (Accepted → Type 0) → Type 0
+OnProgram (Err fault) P = ⊥
+OnProgram (Ok a) P = P a
 
 -- the run ended so, its output was written, and its instructions were counted
 pub record RanWhole (o : Outcome) (f : Flow) (ran : Ran) : Type 0 where
@@ -102,11 +114,7 @@ pub record RanWhole (o : Outcome) (f : Flow) (ran : Ran) : Type 0 where
 
 -- the run of the job's file: where files tell what they hold, it is a program, and it ran so
 abbrev pub RunsTo : Outcome → Around → Type 0
-RunsTo o a = OnJob a.job (λ asked. IfSome (a.contents asked.file) (λ text. OnModule (module_of text) (λ m. RanWhole o a.flow (run m (input_of a.input) asked.steps))))
-
--- the one fault of a text that has another form
-abbrev pub left_out : ModuleFault
-left_out = modules.Read (reads.LeftOut 0 [])
+RunsTo o a = OnJob a.job (λ asked. IfSome (a.contents asked.file) (λ text. OnProgram (program_of text) (λ p. RanWhole o a.flow (run p (input_of a.input) asked.steps))))
 
 -- what each outcome says; the cases exclude each other, so each comes exactly where it says, want of memory aside
 abbrev pub Says : Outcome → Around → Type 0
@@ -116,7 +124,7 @@ Says outcome.Unfinished a = RunsTo outcome.Unfinished a
 Says outcome.NoMemory a = Unit {0}
 Says outcome.Usage a = a.job ≡ None
 Says (outcome.FileFault name) a = OnJob a.job (λ asked. (name ≡ asked.file) × Rose a.files a.files')
-Says (outcome.BadModule fault) a = OnJob a.job (λ asked. (fault ≡ left_out) × IfSome (a.contents asked.file) (λ text. module_of text ≡ None))
+Says (outcome.BadModule fault) a = OnJob a.job (λ asked. IfSome (a.contents asked.file) (λ text. program_of text ≡ Err fault))
 Says outcome.WriteFault a = OnJob a.job (λ asked. Rose a.flow.outs a.flow.outs')
 
 -- nothing was written and nothing counted
@@ -131,15 +139,15 @@ pub record RanPart (f : Flow) (ran : Ran) : Type 0 where
   pub rises : f.counted.source ≤ f.counted'.source
   pub within : f.counted'.source ≤ f.counted.source + ran.count
 
--- of the module that a text means, if it means one
-abbrev pub RunsPart : Flow → List ℕ → ℕ → Option Module → Type 0
-RunsPart f input steps None = Idle f
-RunsPart f input steps (Some m) = RanPart f (run m input steps)
+-- of the program that a text means, if it means one
+abbrev pub RunsPart : Flow → List ℕ → ℕ → Result Accepted ModuleFault → Type 0
+RunsPart f input steps (Err fault) = Idle f
+RunsPart f input steps (Ok a) = RanPart f (run a input steps)
 
 -- whatever the outcome: without a job or a program nothing is written, and otherwise a prefix of the run's output
 abbrev pub WritesPart : Around → Option Asked → Type 0
 WritesPart a None = Idle a.flow
-WritesPart a (Some asked) = IfSome (a.contents asked.file) (λ text. RunsPart a.flow (input_of a.input) asked.steps (module_of text))
+WritesPart a (Some asked) = IfSome (a.contents asked.file) (λ text. RunsPart a.flow (input_of a.input) asked.steps (program_of text))
 
 -- ---- the same for a text that was read
 
@@ -155,14 +163,14 @@ RanAs (outcome.BadModule fault) f ran = ⊥
 RanAs outcome.WriteFault f ran = Rose f.outs f.outs'
 
 -- the outcome of a text that is no program
-abbrev pub IsRefused : Outcome → Type 0
-IsRefused (outcome.BadModule fault) = fault ≡ left_out
-IsRefused outcome.NoMemory = Unit {0}
-IsRefused _ = ⊥
+abbrev pub IsRefused : ModuleFault → Outcome → Type 0
+IsRefused why (outcome.BadModule fault) = why ≡ fault
+IsRefused why outcome.NoMemory = Unit {0}
+IsRefused why _ = ⊥
 
-abbrev pub RunsText : Outcome → Flow → List ℕ → ℕ → Option Module → Type 0
-RunsText o f input steps None = IsRefused o
-RunsText o f input steps (Some m) = RanAs o f (run m input steps)
+abbrev pub RunsText : Outcome → Flow → List ℕ → ℕ → Result Accepted ModuleFault → Type 0
+RunsText o f input steps (Err fault) = IsRefused fault o
+RunsText o f input steps (Ok a) = RanAs o f (run a input steps)
 
 -- the outcome with the stream of the last line beside it, of which these are the counts of faults
 abbrev pub Concludes : Outcome → Around → ℕ → ℕ → Type 0

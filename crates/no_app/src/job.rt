@@ -1,15 +1,20 @@
-ghost use Rattle.std.specs.Prelude.{◌≡◌, ◌+◌, ◌-◌, ◌^◌, ◌<◌, ◌≤◌};
+ghost use Rattle.std.specs.Prelude.{ℕ, List, ◌≡◌, ◌-◌, ◌^◌, ◌≤◌, IfOk, true};
+ghost use Rattle.no_flat.specs.FlatBytes.{byte_of, regions_of};
+ghost use Rattle.no_image.specs.Fits.{image_fits};
+ghost use Rattle.no_ir.specs.declared.function.Role.TheVariants.{Source};
+ghost use Rattle.no_machine.specs.Counted.{counted};
+ghost use Rattle.no_machine.specs.Running.{Does, budget_of, count_of};
 ghost use Rattle.no_ports.specs.Meanings.{Rose};
-ghost use Rattle.no_model.specs.Run.{run};
-ghost use Rattle.no_app.specs.Running.{Does};
-ghost use Rattle.no_app.specs.Jobs.{IsRunOf, Counts, Works, input_of, report_alone};
+ghost use Rattle.no_semantics.specs.Run.{run};
+ghost use Rattle.no_app.specs.Jobs.{Counts, IsAtStart, IsRunOf, Works, input_of, report_alone};
 
-use crate::machine::{Machine, StepAnswer};
 use crate::report::Report;
-use crate::steps::Steps;
-use no_ir::{End, Module};
-use no_model::Sound;
+use no_flat::FlatMemory;
+use no_image::{image, loaded};
+use no_ir::{End, NoMemory};
+use no_machine::{Machine, StepAnswer, Steps};
 use no_ports::{GaveAll, Sink, Source, give_all};
+use no_semantics::Sound;
 use std::alloc::Global;
 use std::sync::ledger::Ledger;
 
@@ -36,24 +41,36 @@ pub(crate) enum Worked {
 
 /// Does instructions until so many are done, or the run has ended.
 fn work<L: Ledger>(
-    machine: &mut Machine,
-    program: &Module,
+    machine: &mut Machine<FlatMemory>,
+    sound: &Sound,
     out: &mut Vec<u8>,
     steps: &mut Steps<L>,
 ) -> Worked
-    requires { machine.old.count ≤ machine.old.budget }
-    ensures does { Does program.now machine.old machine.new out.old.items out.new.items }
+    requires { count_of machine.old ≤ budget_of machine.old }
+    ensures does { Does regions_of byte_of sound.now machine.old machine.new out.old.items out.new.items }
     ensures answer { Works result machine.old machine.new }
-    ensures counts { steps.new ≡ record { source = steps.old.source + (machine.new.count - machine.old.count); part = steps.old.part } }
+    ensures counts { steps.new ≡ counted sound.now.role (count_of machine.new - count_of machine.old) steps.old }
 {
     for _ in 0..SLICE {
-        match machine.step(program, out, steps) {
+        match machine.step(sound, out, steps) {
             StepAnswer::Stepped => {}
             StepAnswer::Ended(end) => return Worked::Ended(end),
+            // All pages are there, so that none is wanted.
+            StepAnswer::WantPage(_) => return Worked::NoMemory,
             StepAnswer::NoMemory => return Worked::NoMemory,
         }
     }
     Worked::Working
+}
+
+/// A machine at the entry of `main`, over the program's first memory.
+fn booted(alloc: Global, sound: &Sound, budget: u64) -> Result<Machine<FlatMemory>, NoMemory>
+    requires { image_fits sound.now.layout sound.now.sizes sound.now.«module».globals ≡ true }
+    ensures { (input : List ℕ) → IfOk result (λ m. IsAtStart sound.now input budget m) }
+{
+    let image = image(alloc, sound)?;
+    let memory = loaded(alloc, sound, &image)?;
+    Machine::boot(alloc, sound, image.addresses, memory, budget)
 }
 
 /// The report of a run on the device alone.
@@ -84,23 +101,24 @@ pub fn local_job<I: Source, O: Sink, L: Ledger>(
     out: &mut O,
     steps: &mut Steps<L>,
 ) -> JobEnd
-    requires { budget ≤ 2 ^ 32 }
+    requires budget { budget ≤ 2 ^ 32 }
+    requires fits { image_fits sound.layout sound.sizes sound.«module».globals ≡ true }
+    requires role { sound.role ≡ Source }
     // What the output got is what the run writes, and the job ends as the run does.
-    ensures run { IsRunOf result (run sound.«module» (input_of (I.left input.old)) budget) (O.held out.old) (O.held out.new) }
+    ensures run { IsRunOf result (run sound (input_of (I.left input.old)) budget) (O.held out.old) (O.held out.new) }
     // The counter rises by what the run counts.
-    ensures counts { Counts result (run sound.«module» (input_of (I.left input.old)) budget).count steps.old steps.new }
+    ensures counts { Counts result (run sound (input_of (I.left input.old)) budget).count steps.old steps.new }
     // A fault of the output is told only where one came.
     ensures fault { result ≡ JobEnd.WriteFault → Rose (O.faults out.old) (O.faults out.new) }
     ensures later { O.faults out.old ≤ O.faults out.new }
     ensures untouched { input.new ≡ input.old }
 {
-    let program = sound.module();
-    let Ok(mut machine) = Machine::boot(alloc, program, budget) else {
+    let Ok(mut machine) = booted(alloc, &sound, budget) else {
         return JobEnd::NoMemory;
     };
     let mut buffer = Vec::new(alloc);
     loop {
-        let worked = work(&mut machine, program, &mut buffer, steps);
+        let worked = work(&mut machine, &sound, &mut buffer, steps);
         match give_all(out, &buffer) {
             GaveAll::Done => {}
             GaveAll::Failed => return JobEnd::WriteFault,
@@ -109,7 +127,7 @@ pub fn local_job<I: Source, O: Sink, L: Ledger>(
         buffer.clear();
         match worked {
             Worked::Working => {}
-            Worked::Ended(end) => return JobEnd::Ended(end, alone(machine.count)),
+            Worked::Ended(end) => return JobEnd::Ended(end, alone(machine.count())),
             Worked::NoMemory => return JobEnd::NoMemory,
         }
     }

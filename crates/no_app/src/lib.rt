@@ -2,11 +2,9 @@
 #![tactic(auto)]
 
 mod job;
-mod machine;
+mod loading;
 mod outcome;
-mod reading;
 mod report;
-mod steps;
 mod telling;
 mod top;
 mod words;
@@ -14,7 +12,6 @@ mod words;
 pub use job::{JobEnd, local_job};
 pub use outcome::{ModuleFault, Outcome, ReadFault, status};
 pub use report::Report;
-pub use steps::Steps;
 pub use top::command;
 
 #[cfg(test)]

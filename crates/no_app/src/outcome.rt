@@ -2,6 +2,7 @@ ghost use Rattle.std.specs.Prelude.{◌≡◌, IfOk};
 ghost use Rattle.no_app.specs.Outcomes.{status_of};
 
 use no_ir::{Bytes, Trap};
+use no_layout::LayoutFault;
 
 /// What is wrong with a text.
 #[derive(Debug, Drop)]
@@ -14,6 +15,8 @@ pub enum ReadFault {
 #[derive(Debug, Drop)]
 pub enum ModuleFault {
     Read(ReadFault),
+    /// The data layout string is none.
+    Layout(LayoutFault),
 }
 
 /// How the program ends, in the order of the words that its last line has.

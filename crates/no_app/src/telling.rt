@@ -1,9 +1,10 @@
 ghost use Rattle.std.specs.Prelude.{◌≡◌, ℕ, ◌≤◌, ◌++◌, ◌⊎◌, OnOk, IfOk, decimal};
 ghost use Rattle.no_ports.specs.Meanings.{Rose};
-ghost use Rattle.no_app.specs.Outcomes.{line_of, words_of, module_words, read_words, Tells, Becomes};
+ghost use Rattle.no_app.specs.Outcomes.{line_of, words_of, module_words, read_words, layout_words, layout_number, Tells, Becomes};
 
 use crate::outcome::{ModuleFault, Outcome, ReadFault};
 use no_ir::{NoMemory, Trap};
+use no_layout::{LayoutFault, LayoutKind};
 use no_ports::{GaveAll, Sink, give_all};
 use std::alloc::Global;
 
@@ -36,7 +37,29 @@ fn put_fault(out: &mut Vec<u8>, alloc: Global, fault: &ModuleFault) -> Result<()
             out.extend_from_slice(b"read 2 at ")?;
             put_number(out, alloc, u64::from(*at))
         }
+        ModuleFault::Layout(fault) => put_layout_fault(out, alloc, fault),
     }
+}
+
+/// The number of a kind of layout fault.
+fn layout_number(kind: LayoutKind) -> u64
+    ensures { result ≡ layout_number kind }
+{
+    match kind {
+        LayoutKind::NoOrder => 1,
+        LayoutKind::BadWidth => 2,
+        LayoutKind::BadSpec => 3,
+    }
+}
+
+/// Adds the words of a layout's fault.
+fn put_layout_fault(out: &mut Vec<u8>, alloc: Global, fault: &LayoutFault) -> Result<(), NoMemory>
+    ensures { OnOk result (out.new.items ≡ out.old.items ++ layout_words fault.now) }
+{
+    out.extend_from_slice(b"layout ")?;
+    put_number(out, alloc, layout_number(fault.kind))?;
+    out.extend_from_slice(b" at ")?;
+    put_number(out, alloc, u64::from(fault.at))
 }
 
 /// Adds the words of an outcome.

@@ -1,17 +1,17 @@
 ghost use Rattle.std.specs.Prelude.{◌≡◌, ◌≤◌, ◌^◌, ◌⊎◌, ℕ, List, None, Some};
-ghost use Rattle.no_model.specs.Reading.{module_of};
 ghost use Rattle.no_app.specs.Jobs.{input_of};
+ghost use Rattle.no_app.specs.Programs.{program_of};
 ghost use Rattle.no_app.specs.Words.{asked_of};
-ghost use Rattle.no_app.specs.Outcomes.{Says, WritesPart, Concludes, Tells, RunsText, RunsPart, left_out, outcome_of_job};
+ghost use Rattle.no_app.specs.Outcomes.{Says, WritesPart, Concludes, Tells, RunsText, RunsPart, outcome_of_job};
 
 use crate::job::{JobEnd, local_job};
-use crate::outcome::{ModuleFault, Outcome, ReadFault};
-use crate::reading::{Refusal, TEXT_LIMIT, read_text};
-use crate::steps::Steps;
+use crate::loading::{Refused, load};
+use crate::outcome::Outcome;
 use crate::telling::tell;
 use crate::words::read_words;
-use no_ir::{Bytes, End, List, Role, Text};
-use no_model::Sound;
+use no_ir::{Bytes, End, Text};
+use no_lines::TEXT_LIMIT;
+use no_machine::Steps;
 use no_ports::{FileAnswer, Files, Sink, Source, Spawner, Wire};
 use std::alloc::Global;
 use std::convert::AsStr;
@@ -25,16 +25,6 @@ fn file_fault(alloc: Global, name: &str) -> Outcome
         Ok(name) => Outcome::FileFault(name),
         Err(_) => Outcome::NoMemory,
     }
-}
-
-/// The outcome of a text that has another form.
-fn bad_text(alloc: Global) -> Outcome
-    ensures { result ≡ Outcome.BadModule left_out }
-{
-    Outcome::BadModule(ModuleFault::Read(ReadFault::LeftOut {
-        at: 0,
-        word: List::new(alloc),
-    }))
 }
 
 /// The outcome of a job.
@@ -60,21 +50,14 @@ fn run_text<I: Source, O: Sink, L: Ledger>(
     steps: &mut Steps<L>,
 ) -> Outcome
     requires { budget ≤ 2 ^ 32 }
-    ensures says { RunsText result (record { held = O.held out.old; held' = O.held out.new; counted = steps.old; counted' = steps.new; outs = O.faults out.old; outs' = O.faults out.new }) (input_of (I.left input.old)) budget (module_of text.now) }
-    ensures part { RunsPart (record { held = O.held out.old; held' = O.held out.new; counted = steps.old; counted' = steps.new; outs = O.faults out.old; outs' = O.faults out.new }) (input_of (I.left input.old)) budget (module_of text.now) }
+    ensures says { RunsText result (record { held = O.held out.old; held' = O.held out.new; counted = steps.old; counted' = steps.new; outs = O.faults out.old; outs' = O.faults out.new }) (input_of (I.left input.old)) budget (program_of text.now) }
+    ensures part { RunsPart (record { held = O.held out.old; held' = O.held out.new; counted = steps.old; counted' = steps.new; outs = O.faults out.old; outs' = O.faults out.new }) (input_of (I.left input.old)) budget (program_of text.now) }
     ensures untouched { input.new ≡ input.old }
 {
-    match read_text(alloc, text) {
-        Ok(program) => job_outcome(local_job(
-            alloc,
-            Sound::of(program, Role::Source),
-            budget,
-            input,
-            out,
-            steps,
-        )),
-        Err(Refusal::LeftOut) => bad_text(alloc),
-        Err(Refusal::NoMemory) => Outcome::NoMemory,
+    match load(alloc, text) {
+        Ok(sound) => job_outcome(local_job(alloc, sound, budget, input, out, steps)),
+        Err(Refused::Bad(fault)) => Outcome::BadModule(fault),
+        Err(Refused::NoMemory) => Outcome::NoMemory,
     }
 }
 

@@ -1,10 +1,10 @@
 ghost use Rattle.std.specs.Prelude.{◌≡◌, ◌≤◌, ◌^◌, Some, None, IfSome, false};
 ghost use Rattle.std.specs.Option.{option_copied};
-ghost use Rattle.no_app.specs.Refused.{Finds};
+ghost use Rattle.no_lines.specs.Refused.{Finds};
 ghost use Rattle.no_app.specs.Requests.{request_of, heard_of};
 ghost use Rattle.no_app.specs.Words.{with_budget, budget_of, hear_value, hear_option, hear_word, hear, scanned, asked_of, finished};
 
-use crate::reading::number;
+use no_lines::number;
 use no_ir::Text;
 use std::convert::AsStr;
 

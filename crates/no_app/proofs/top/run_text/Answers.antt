@@ -13,4 +13,4 @@ returns-in-Ok-clause-part g c =
       outs' = g.O.Sink.faults c.local_job.new.out;
     } in
     let part = job_part c.local_job.result flow _ c.local_job.ensures.run c.local_job.ensures.counts in
-    rw c.in-Ok.ensures (rw c.of.ensures at part)
+    rw c.in-Ok.ensures.loads part

@@ -1,0 +1,54 @@
+-- The program that a text means, or what is wrong with the text (docs/LANGUAGE.md).
+use Rattle.std.specs.Prelude.{◌≡◌, ℕ, Bool, true, false, ◌&&◌, List, [], ◌∷◌, Option, Some, None, Result, Ok, Err, if◌then◌else◌}
+use Rattle.no_ir.specs.declared.types.Ty.{Ty}
+use Rattle.no_ir.specs.declared.function.Module.{Module}
+use Rattle.no_ir.specs.declared.function.Role.TheVariants.{Source}
+use Rattle.no_layout.specs.declared.extent.Extent.{Extent}
+use Rattle.no_layout.specs.declared.fault.LayoutFault.{LayoutFault}
+use Rattle.no_layout.specs.declared.layout.Layout.{Layout}
+use Rattle.no_layout.specs.Sizes.{measure_of, with_type, sizes_of}
+use Rattle.no_layout.specs.Text.{layout_of}
+use Rattle.no_semantics.specs.Accepted.{Accepted}
+use Rattle.no_semantics.specs.Sound.{is_sound}
+use Rattle.no_image.specs.Fits.{image_fits}
+use Rattle.no_lines.specs.Reading.{module_of}
+use Rattle.no_app.specs.declared.loading.Refused.{Refused}
+use Rattle.no_app.specs.declared.loading.Refused.TheVariants as refused
+use Rattle.no_app.specs.declared.outcome.ModuleFault.{ModuleFault}
+use Rattle.no_app.specs.declared.outcome.ModuleFault.TheVariants as modules
+use Rattle.no_app.specs.declared.outcome.ReadFault.TheVariants as reads
+
+-- a form that is left out
+abbrev pub left_out : ModuleFault
+left_out = modules.Read (reads.LeftOut 0 [])
+
+-- each named type, and each type inside it, has at most 0x1000_0000 bytes, by the sizes of those before it
+abbrev pub types_fit : Layout → List Extent → List (List ℕ × Ty) → Bool
+types_fit l before [] = true
+types_fit l before (named ∷ more) = (measure_of l before named.1).fits && types_fit l (with_type l before named) more
+
+-- a machine runs each instruction, and the globals have room
+abbrev pub can_run : Accepted → Bool
+can_run a = is_sound a.«module» a.layout a.sizes && image_fits a.layout a.sizes a.«module».globals
+
+abbrev pub with_layout : Module → Layout → Accepted
+with_layout m l = record { «module» = m; layout = l; sizes = sizes_of l m.types; role = Source }
+
+-- the layout is judged first
+abbrev pub laid_out : Module → Result Layout LayoutFault → Result Accepted ModuleFault
+laid_out m (Err fault) = Err (modules.Layout fault)
+laid_out m (Ok l) = if types_fit l [] m.types && can_run (with_layout m l) then Ok (with_layout m l) else Err left_out
+
+abbrev pub accepted_of : Option Module → Result Accepted ModuleFault
+accepted_of None = Err left_out
+accepted_of (Some m) = laid_out m (layout_of m.layout)
+
+-- the program that a text means, or what is wrong with the text
+unfoldable pub program_of : List ℕ → Result Accepted ModuleFault
+program_of text = accepted_of (module_of text)
+
+-- what was loaded is the program, or what is wrong is told, unless memory ran out
+abbrev pub Loads : Result Accepted Refused → Result Accepted ModuleFault → Type 0
+Loads (Ok a) program = program ≡ Ok a
+Loads (Err (refused.Bad fault)) program = program ≡ Err fault
+Loads (Err refused.NoMemory) program = Unit {0}
