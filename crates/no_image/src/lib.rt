@@ -3,8 +3,6 @@
 
 mod ends;
 mod placement;
-mod stub;
 
 pub use ends::fits;
 pub use placement::{addresses, regions};
-pub use stub::{image, loaded};

@@ -1,3 +1,3 @@
-pub mod Lines
+pub mod Cutting
+pub mod Places
 pub mod Bodies
-pub mod Registers

@@ -1,2 +1,5 @@
+pub mod Pieces
+pub mod Values
+pub mod Forms
 pub mod Reading
-pub mod Refused
+pub mod Answers

@@ -1,145 +1,35 @@
--- The text of a program of one block: what each line may be, and the module that the lines mean.
-use Rattle.std.specs.Prelude.{ℕ, ◌+◌, ◌-◌, ◌*◌, ◌%◌, ◌^◌, Bool, true, false, ◌&&◌, ◌==◌, nat_le, if◌then◌else◌, List, [], ◌∷◌, ◌++◌, length, take, drop, filter, Option, Some, None, is_none, option_map, codes, position, bytes_eq}
-use Rattle.std.specs.List.{list_all}
-use Rattle.std.specs.Char.{is_ascii_digit, is_ascii_alphabetic, is_ascii_alphanumeric}
+-- The text of a program of one block over memory: what each line may be, and the module that the lines mean.
+use Rattle.std.specs.Prelude.{ℕ, Bool, true, false, ◌||◌, nat_le, if◌then◌else◌, List, [], ◌∷◌, ◌++◌, length, Option, Some, None, is_some, codes, position, bytes_eq, Result, Ok, Err}
+use Rattle.no_ir.specs.declared.types.Ty.{Ty}
 use Rattle.no_ir.specs.declared.types.Ty.TheVariants as ty
-use Rattle.no_ir.specs.declared.constant.Const.TheVariants as const
-use Rattle.no_ir.specs.declared.constant.Symbol.TheVariants as symbol
-use Rattle.no_ir.specs.declared.instruction.BinOp.TheVariants as by
 use Rattle.no_ir.specs.declared.instruction.Operand.{Operand}
-use Rattle.no_ir.specs.declared.instruction.Operand.TheVariants as operand
 use Rattle.no_ir.specs.declared.instruction.Op.{Op}
 use Rattle.no_ir.specs.declared.instruction.Op.TheVariants as op
 use Rattle.no_ir.specs.declared.instruction.Instr.{Instr}
 use Rattle.no_ir.specs.declared.function.Function.{Function}
+use Rattle.no_ir.specs.declared.function.GlobalVar.{GlobalVar}
 use Rattle.no_ir.specs.declared.function.Module.{Module}
+use Rattle.no_grammar.specs.Unescaped.{unescaped}
+use Rattle.no_lines.specs.Pieces.{◌>>=◌, cut, strip, is_empty, lines_at}
+use Rattle.no_lines.specs.Values.{operand_at}
+use Rattle.no_lines.specs.Forms.{i32, store_of, assignment_of, global_of}
+use Rattle.no_lines.specs.declared.values.Known.{Known}
+use Rattle.no_lines.specs.declared.reading.Globals.{Globals}
 
-infixl 10 ◌>>=◌
--- a step that may refuse, and then the next
-abbrev pub ◌>>=◌ : {A B : Type 0} → Option A → (A → Option B) → Option B
-(Some x) >>= f = f x
-None >>= f = None
+-- lines with their places
+abbrev pub Lines : Type 0
+Lines = List (ℕ × List ℕ)
 
--- ---- pieces of a line
+-- what is read, or where the first line stands that breaks the forms
+abbrev pub after : {A B : Type 0} → Result A ℕ → (A → Result B ℕ) → Result B ℕ
+after (Ok a) f = f a
+after (Err at) f = Err at
 
--- what stands before the first b, and what stands after it
-abbrev pub cut : ℕ → List ℕ → Option (List ℕ × List ℕ)
-cut b [] = None
-cut b (x ∷ xs) = if x == b then Some ([], xs) else option_map (λ p. (x ∷ p.0, p.1)) (cut b xs)
+abbrev pub or_at : {A : Type 0} → ℕ → Option A → Result A ℕ
+or_at at None = Err at
+or_at at (Some a) = Ok a
 
--- what stands after a prefix
-abbrev pub strip : List ℕ → List ℕ → Option (List ℕ)
-strip prefix xs = if bytes_eq (take (length prefix) xs) prefix then Some (drop (length prefix) xs) else None
-
--- the lines of a text but the empty ones; a line feed is 10
-abbrev pub glue : ℕ → List (List ℕ) → List (List ℕ)
-glue x [] = (x ∷ []) ∷ []
-glue x (line ∷ lines) = (x ∷ line) ∷ lines
-
-abbrev pub split : ℕ → List ℕ → List (List ℕ)
-split b [] = [] ∷ []
-split b (x ∷ xs) = if x == b then [] ∷ split b xs else glue x (split b xs)
-
-abbrev pub is_empty : {A : Type 0} → List A → Bool
-is_empty [] = true
-is_empty (x ∷ xs) = false
-
-abbrev pub is_full : List ℕ → Bool
-is_full [] = false
-is_full (x ∷ xs) = true
-
-abbrev pub lines_of : List ℕ → List (List ℕ)
-lines_of text = filter is_full (split 10 text)
-
--- ---- names and integers
-
--- letters and digits that begin with a letter
-abbrev pub is_name : List ℕ → Bool
-is_name [] = false
-is_name (c ∷ cs) = is_ascii_alphabetic c && list_all is_ascii_alphanumeric cs
-
--- the number that digits spell, after those that spelled sum; it is at most most
-abbrev pub number_from : ℕ → List ℕ → ℕ → Option ℕ
-number_from most [] sum = Some sum
-number_from most (c ∷ cs) sum = if is_ascii_digit c && nat_le (10 * sum + (c - 48)) most then number_from most cs (10 * sum + (c - 48)) else None
-
--- one digit at least
-abbrev pub number_of : ℕ → List ℕ → Option ℕ
-number_of most [] = None
-number_of most (c ∷ cs) = number_from most (c ∷ cs) 0
-
--- the number of 32 bits that is -n
-abbrev pub negated : ℕ → ℕ
-negated n = (2 ^ 32 - n) % 2 ^ 32
-
--- an integer of i32, from -2147483648 to 4294967295, modulo 2 ^ 32; a minus sign is 45
-abbrev pub integer_of : List ℕ → Option ℕ
-integer_of [] = None
-integer_of (c ∷ cs) = if c == 45 then option_map negated (number_of 2147483648 cs) else number_of 4294967295 (c ∷ cs)
-
--- ---- operands and instructions
-
--- the place of a register that an earlier line assigns
-unfoldable pub register_of : List (List ℕ) → List ℕ → Option ℕ
-register_of names name = position (bytes_eq name) names
-
--- a register or an integer; a percent sign is 37
-abbrev pub operand_of : List (List ℕ) → List ℕ → Option Operand
-operand_of names [] = None
-operand_of names (c ∷ cs) =
-    if c == 37 then option_map operand.Reg (register_of names cs) else option_map (λ n. operand.Const (const.Int n)) (integer_of (c ∷ cs))
-
--- the first function of the module, by its name alone
-abbrev pub first_function : Operand
-first_function = operand.Const (const.Address (record { symbol = symbol.Function 0; base = ty.Void; indices = [] }))
-
-abbrev pub add_op : Operand → Operand → Op
-add_op a b = op.Binary by.Add 32 a b
-
-abbrev pub call_op : Operand → Op
-call_op a = op.Call (ty.Int 32) first_function ((ty.Int 32, a) ∷ [])
-
-abbrev pub return_op : Operand → Op
-return_op a = op.Ret (Some (ty.Int 32, a))
-
--- `add i32 A, B`, after its head; a comma is 44
-abbrev pub add_of : List (List ℕ) → List ℕ → Option Op
-add_of names rest = do
-  parts ← cut 44 rest
-  a ← operand_of names parts.0
-  last ← strip (codes " ") parts.1
-  b ← operand_of names last
-  Some (add_op a b)
-
--- `call i32 @putchar(i32 A)`, after its head; a closing bracket is 41
-abbrev pub call_of : List (List ℕ) → List ℕ → Option Op
-call_of names rest = do
-  parts ← cut 41 rest
-  a ← operand_of names parts.0
-  if is_full parts.1 then None else Some (call_op a)
-
-abbrev pub call_or_none : Bool → List (List ℕ) → Option (List ℕ) → Option Op
-call_or_none true names (Some rest) = call_of names rest
-call_or_none _ names _ = None
-
--- what stands after `  %N = `; a call only where the function is declared
-abbrev pub value_of : Bool → List (List ℕ) → List ℕ → Option Op
-value_of declared names rest =
-    elim (strip (codes "= add i32 ") rest) [
-      | Some more ↦ add_of names more
-      | None ↦ call_or_none declared names (strip (codes "= call i32 @putchar(i32 ") rest)
-    ]
-
--- a line that assigns: a name that is new, and what is assigned; a space is 32
-abbrev pub assignment_of : Bool → List (List ℕ) → List ℕ → Option (List ℕ × Op)
-assignment_of declared names line = do
-  rest ← strip (codes "  %") line
-  parts ← cut 32 rest
-  if is_name parts.0 && is_none (register_of names parts.0)
-      then value_of declared names parts.1 >>= (λ what. Some (parts.0, what))
-      else None
-
--- ---- the whole
+-- ---- a body
 
 abbrev pub Body : Type 0
 Body = List (List ℕ) × List Instr
@@ -147,31 +37,66 @@ Body = List (List ℕ) × List Instr
 abbrev pub plain : Option ℕ → Op → Instr
 plain result what = record { result = result; inserted = false; op = what }
 
--- the closing bracket alone
-abbrev pub is_close : List (List ℕ) → Bool
-is_close [] = false
-is_close (line ∷ more) = bytes_eq line (codes "}") && is_empty more
+-- one instruction, and what is known after it
+abbrev pub Step : Type 0
+Step = Instr × Known
 
--- what the return gives, and after it the closing bracket
-abbrev pub ending_of : List (List ℕ) → List ℕ → List (List ℕ) → Option Operand
-ending_of names rest more = if is_close more then operand_of names rest else None
+abbrev pub assigned_step : Known → List ℕ × Op × Ty → Step
+assigned_step k a = (
+  plain (Some (length k.names)) a.1,
+  record { globals = k.globals; names = k.names ++ a.0 ∷ []; types = k.types ++ a.2 ∷ [] },
+)
 
-abbrev pub ended_body : List (List ℕ) → Operand → Body
-ended_body names a = (names, plain None (return_op a) ∷ [])
+-- a store, behind its head
+abbrev pub stored_line : Known → List ℕ → Option Step
+stored_line k text = store_of k text >>= (λ what. Some (plain None what, k))
 
--- one instruction before those of a body
-abbrev pub before_body : List Instr → Option Body → Option Body
-before_body front body = option_map (λ b. (b.0, front ++ b.1)) body
+-- an assignment, behind its head
+abbrev pub assigned_text : Bool → Known → List ℕ → Option Step
+assigned_text declared k text = assignment_of declared k text >>= (λ a. Some (assigned_step k a))
 
--- names are those that earlier lines assign
-abbrev pub body_of : Bool → List (List ℕ) → List (List ℕ) → Option Body
-body_of declared names [] = None
-body_of declared names (line ∷ more) =
-    elim (strip (codes "  ret i32 ") line) [
-      | Some rest ↦ option_map (ended_body names) (ending_of names rest more)
-      | None ↦ assignment_of declared names line >>= (λ a.
-          before_body (plain (Some (length names)) a.1 ∷ []) (body_of declared (names ++ a.0 ∷ []) more))
+abbrev pub assigned_line : Bool → Known → List ℕ → Option Step
+assigned_line declared k line = strip (codes "  %") line >>= assigned_text declared k
+
+abbrev pub line_of : Bool → Known → List ℕ → Option Step
+line_of declared k line =
+    elim (strip (codes "  store ") line) [
+      | Some text ↦ stored_line k text
+      | None ↦ assigned_line declared k line
     ]
+
+-- the closing bracket, and nothing behind it
+abbrev pub closed_behind : Lines → Result (Unit {0}) ℕ
+closed_behind [] = Ok tt
+closed_behind (line ∷ more) = Err line.0
+
+abbrev pub closed : ℕ → Lines → Result (Unit {0}) ℕ
+closed end [] = Err end
+closed end (line ∷ more) = if bytes_eq line.1 (codes "}") then closed_behind more else Err line.0
+
+abbrev pub return_op : Operand → Op
+return_op a = op.Ret (Some (i32, a))
+
+abbrev pub ended_body : Known → Operand → Body
+ended_body k a = (k.names, plain None (return_op a) ∷ [])
+
+-- what the return gives, and behind it the end of the text
+abbrev pub ending_of : ℕ → ℕ → Known → List ℕ → Lines → Result Body ℕ
+ending_of end at k text more = after (or_at at (operand_at k i32 text)) (λ a. after (closed end more) (λ _. Ok (ended_body k a)))
+
+-- instructions before those of a body
+abbrev pub before_body : List Instr → Result Body ℕ → Result Body ℕ
+before_body front body = after body (λ b. Ok (b.0, front ++ b.1))
+
+abbrev pub body_of : ℕ → Bool → Known → Lines → Result Body ℕ
+body_of end declared k [] = Err end
+body_of end declared k (line ∷ more) =
+    elim (strip (codes "  ret i32 ") line.1) [
+      | Some text ↦ ending_of end line.0 k text more
+      | None ↦ after (or_at line.0 (line_of declared k line.1)) (λ s. before_body (s.0 ∷ []) (body_of end declared s.1 more))
+    ]
+
+-- ---- the whole
 
 -- the declared function, whose parameter is named by its place
 abbrev pub putchar_function : Function
@@ -198,38 +123,71 @@ main_function body = record {
   blocks = record { label = 0; instrs = body.1 } ∷ [];
 }
 
-abbrev pub layout_text : List ℕ
-layout_text = codes "E-p:32:32-i64:64"
+abbrev pub functions_with : Bool → Function → List Function
+functions_with declared main = if declared then putchar_function ∷ main ∷ [] else main ∷ []
 
-abbrev pub module_with : Bool → Body → Module
-module_with declared body = record {
-  layout = layout_text;
-  types = [];
-  globals = [];
-  functions = (if declared then putchar_function ∷ main_function body ∷ [] else main_function body ∷ []);
-}
+abbrev pub module_with : List ℕ → List GlobalVar → Bool → Body → Module
+module_with layout globals declared body = record { layout = layout; types = []; globals = globals; functions = functions_with declared (main_function body) }
 
--- the lines from the definition on
-abbrev pub definition_of : Bool → List (List ℕ) → Option Module
-definition_of declared [] = None
-definition_of declared (line ∷ more) =
-    if bytes_eq line (codes "define i32 @main() {") then option_map (module_with declared) (body_of declared [] more) else None
+abbrev pub is_global : Globals → List ℕ → Bool
+is_global g name = is_some (position (bytes_eq name) g.names)
 
--- the lines after that of the layout
-abbrev pub functions_of : List (List ℕ) → Option Module
-functions_of [] = None
-functions_of (line ∷ more) =
-    if bytes_eq line (codes "declare i32 @putchar(i32)") then definition_of true more else definition_of false (line ∷ more)
+abbrev pub with_global : Globals → ℕ → GlobalVar → Globals
+with_global g at global = record { names = g.names ++ global.name ∷ []; globals = g.globals ++ global ∷ []; places = g.places ++ at ∷ [] }
 
-abbrev pub module_of_lines : List (List ℕ) → Option Module
-module_of_lines [] = None
-module_of_lines (line ∷ more) =
-    if bytes_eq line (codes "target datalayout = \"E-p:32:32-i64:64\"") then functions_of more else None
+-- a module, and where the lines of its globals stand
+abbrev pub Read : Type 0
+Read = Module × List ℕ
+
+-- ---- globals and the declaration
+
+-- whether the output function is declared, and the globals so far
+abbrev pub Heads : Type 0
+Heads = Bool × Globals
+
+-- a line before the definition, or none where it is the definition
+abbrev pub head_of : Bool → Globals → ℕ → List ℕ → Result (Option Heads) ℕ
+head_of declared g at line =
+    if bytes_eq line (codes "declare i32 @putchar(i32)")
+    then (if declared || is_global g (codes "putchar") then Err at else Ok (Some (true, g)))
+    else (if bytes_eq line (codes "define i32 @main() {")
+    then (if is_global g (codes "main") then Err at else Ok None)
+    else after (or_at at (global_of declared g.names line)) (λ global. Ok (Some (declared, with_global g at global))))
+
+-- the heads, and the lines behind the definition
+abbrev pub heads_of : ℕ → Bool → Globals → Lines → Result (Heads × Lines) ℕ
+heads_of end declared g [] = Err end
+heads_of end declared g (line ∷ more) =
+    after (head_of declared g line.0 line.1) (λ head. elim head [
+      | None ↦ Ok ((declared, g), more)
+      | Some h ↦ heads_of end h.0 h.1 more
+    ])
+
+-- ---- the whole text
+
+abbrev pub with_body : List ℕ → Heads → Body → Read
+with_body layout h body = (module_with layout h.1.globals h.0 body, h.1.places)
+
+abbrev pub definition_of : ℕ → List ℕ → Heads × Lines → Result Read ℕ
+definition_of end layout x =
+    after (body_of end x.0.0 (record { globals = x.0.1.names; names = []; types = [] }) x.1) (λ body. Ok (with_body layout x.0 body))
+
+-- the layout's string; a quote is 34
+abbrev pub layout_in : List ℕ → Option (List ℕ)
+layout_in line = do
+  text ← strip (codes "target datalayout = \"") line
+  parts ← cut 34 text
+  if is_empty parts.1 then Some (unescaped parts.0) else None
+
+abbrev pub module_of_lines : ℕ → Lines → Result Read ℕ
+module_of_lines end [] = Err end
+module_of_lines end (line ∷ more) =
+    after (or_at line.0 (layout_in line.1)) (λ layout. after (heads_of end false (record { names = []; globals = []; places = [] }) more) (definition_of end layout))
 
 -- the greatest length of a text, in bytes
 abbrev pub text_limit : ℕ
 text_limit = 16777216
 
--- the module that a text means, and none where it has another form or is too long
-unfoldable pub module_of : List ℕ → Option Module
-module_of text = if nat_le (length text) text_limit then module_of_lines (lines_of text) else None
+-- the module that a text means, or the first byte of the first line that breaks the forms, or the length where a line is missing
+unfoldable pub module_of : List ℕ → Result Read ℕ
+module_of text = if nat_le (length text) text_limit then module_of_lines (length text) (lines_at 0 text) else Err text_limit

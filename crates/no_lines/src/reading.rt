@@ -1,340 +1,51 @@
-ghost use Rattle.std.specs.Prelude.{◌≡◌, ◌≢◌, ◌+◌, ◌<◌, ◌^◌, ◌∷◌, [], List, length, Some, None, MatchOption, nat_le, IfOk, IfSome, ◌≤◌, drop, take};
-ghost use Rattle.no_lines.specs.Reading.{is_close, cut, strip, lines_of, is_name, number_of, integer_of, register_of, operand_of, add_of, call_of, value_of, assignment_of, body_of, ending_of, definition_of, functions_of, module_of_lines, module_of, add_op, call_op, return_op, plain, main_function, putchar_function, module_with};
-ghost use Rattle.std.specs.List.{list_all};
-ghost use Rattle.std.specs.Char.{is_ascii_alphanumeric};
-ghost use Rattle.no_lines.specs.Refused.{Reads, Finds, Adds, AddsName, AddsInstr, module_of_main};
-ghost use Rattle.no_lines.specs.declared.reading.Refusal.TheVariants.{NoMemory};
+ghost use Rattle.std.specs.Prelude.{Ok, Err, Some, true, false, ◌≡◌, ◌||◌, ◌+◌, ◌<◌, ◌≤◌, ◌^◌, [], None, length, position, bytes_eq, codes, if◌then◌else◌, IfOk};
+ghost use Rattle.no_lines.specs.Answers.{AddsGlobal, AddsHead, Reads};
+ghost use Rattle.no_lines.specs.Forms.{global_of};
+ghost use Rattle.no_lines.specs.Pieces.{lines_at};
+ghost use Rattle.no_lines.specs.Reading.{definition_of, functions_with, head_of, heads_of, is_global, layout_in, main_function, module_of, or_at, putchar_function};
 
-use no_ir::{
-    BinOp, Block, Bytes, Const, Function, Instr, List, Module, Names, NoMemory, Op, Operand, Place,
-    Symbol, Ty,
-};
-use std::alloc::{AllocError, AllocFailed, Global};
+use crate::Refusal;
+use crate::body::body;
+use crate::forms::global;
+use crate::pieces::{after, next_line, parts};
+use no_grammar::unescaped;
+use no_ir::{Block, Bytes, Function, GlobalVar, Instr, List, Module, Names, Ty};
+use std::alloc::Global;
 
 /// The greatest length of a module's file, in bytes.
 pub const TEXT_LIMIT: u32 = 16_777_216;
-
-const LAYOUT: &[u8] = b"target datalayout = \"E-p:32:32-i64:64\"";
 
 const DECLARATION: &[u8] = b"declare i32 @putchar(i32)";
 
 const DEFINITION: &[u8] = b"define i32 @main() {";
 
-const CLOSE: &[u8] = b"}";
-
-/// Why a text is not read.
-#[derive(Clone, Copy, Debug, PartialEq, Eq)]
-pub enum Refusal {
-    NoMemory,
-    /// The text has another form.
-    LeftOut,
+/// A module, and where the lines of its globals stand, in bytes.
+#[derive(Drop)]
+pub struct Read {
+    pub program: Module,
+    pub places: List<u32>,
 }
 
-impl From<AllocError> for Refusal {
-    ghost from_gives = { λ _ e. e ≡ NoMemory };
-
-    fn from(_error: AllocError) -> Refusal {
-        Refusal::NoMemory
-    }
+/// The globals so far, with their names and the places of their lines.
+#[derive(Drop)]
+struct Globals {
+    names: Names,
+    globals: List<GlobalVar>,
+    places: List<u32>,
 }
 
-impl From<NoMemory> for Refusal {
-    ghost from_gives = { λ _ e. e ≡ NoMemory };
-
-    fn from(_error: NoMemory) -> Refusal {
-        Refusal::NoMemory
-    }
-}
-
-impl<T: Drop> From<AllocFailed<T>> for Refusal {
-    ghost from_gives = { λ _ e. e ≡ NoMemory };
-
-    fn from(_failed: AllocFailed<T>) -> Refusal {
-        Refusal::NoMemory
-    }
-}
-
-/// What stands before the first of a byte, and after it.
-fn parts(text: &[u8], byte: u8) -> Option<(&[u8], &[u8])>
-    ensures value { Finds (λ p. (p.0.now, p.1.now)) result (cut byte text.now) }
-    ensures shorter { IfSome result (λ p. length p.1.now < length text.now) }
-{
-    for (index, other) in text.iter().enumerate() {
-        if *other == byte {
-            let (front, back) = text.split_at(index);
-            let (_, rest) = back.split_at(1);
-            return Some((front, rest));
-        }
-    }
-    None
-}
-
-/// What stands after a prefix.
-fn after<'a>(prefix: &[u8], text: &'a [u8]) -> Option<&'a [u8]>
-    ensures { Finds (λ p. p.now) result (strip prefix.now text.now) }
-{
-    text.strip_prefix(prefix)
-}
-
-/// The first line that is not empty, and what follows it.
-fn next_line(text: &[u8]) -> Option<(&[u8], &[u8])>
-    ensures lines { MatchOption result (lines_of text.now ≡ []) (λ p. lines_of text.now ≡ p.0.now ∷ lines_of p.1.now) }
-    ensures shorter { IfSome result (λ p. length p.1.now < length text.now) }
-{
-    let mut rest = text;
-    while !rest.is_empty() {
-        match parts(rest, b'\n') {
-            None => return Some((rest, &[])),
-            Some(([], more)) => rest = more,
-            Some((line, more)) => return Some((line, more)),
-        }
-    }
-    None
-}
-
-/// Letters and digits that begin with a letter.
-fn is_fine_name(name: &[u8]) -> bool
-    ensures { result ≡ is_name name.now }
-{
-    match name {
-        [] => false,
-        [first, more @ ..] => first.is_ascii_alphabetic() && are_name_bytes(more),
-    }
-}
-
-/// Letters and digits.
-fn are_name_bytes(text: &[u8]) -> bool
-    ensures { result ≡ list_all is_ascii_alphanumeric text.now }
-{
-    for c in text {
-        if !c.is_ascii_alphanumeric() {
-            return false;
-        }
-    }
-    true
-}
-
-/// The number that digits spell, at most `most`.
-pub fn number(most: u64, text: &[u8]) -> Option<u64>
-    requires { most < 2 ^ 33 }
-    ensures value { result ≡ number_of most text.now }
-    ensures within { IfSome result (λ n. n ≤ most) }
-{
-    if text.is_empty() {
-        return None;
-    }
-    let mut sum = 0u64;
-    for c in text {
-        if !c.is_ascii_digit() {
-            return None;
-        }
-        sum = 10 * sum + u64::from(*c - b'0');
-        if sum > most {
-            return None;
-        }
-    }
-    Some(sum)
-}
-
-/// An integer of 32 bits, modulo 2 to the 32nd.
-fn integer(text: &[u8]) -> Option<u64>
-    ensures { result ≡ integer_of text.now }
-{
-    match text {
-        [] => None,
-        [b'-', digits @ ..] => {
-            let n = number(2_147_483_648, digits)?;
-            Some((4_294_967_296 - n) % 4_294_967_296)
-        }
-        _ => number(4_294_967_295, text),
-    }
-}
-
-/// The register that an earlier line assigns.
-#[tactic(auto, using(crate::proofs::Registers::place_within), unfolding(crate::specs::Reading::register_of))]
-fn register(names: &Names, name: &[u8]) -> Option<u32>
-    requires { length names.now < 2 ^ 32 }
-    ensures { result ≡ register_of names.now name.now }
-{
-    match names.find(name) {
-        Some(place) => Some(place as u32),
-        None => None,
-    }
-}
-
-/// A register or an integer.
-fn operand(names: &Names, text: &[u8]) -> Option<Operand>
-    requires { length names.now < 2 ^ 32 }
-    ensures { result ≡ operand_of names.now text.now }
-{
-    match text {
-        [] => None,
-        [b'%', name @ ..] => register(names, name).map(Operand::Reg),
-        _ => integer(text).map(|n| Operand::Const(Const::Int(n))),
-    }
-}
-
-/// The sum of two operands.
-fn addition(names: &Names, rest: &[u8]) -> Option<Op>
-    requires { length names.now < 2 ^ 32 }
-    ensures { result ≡ add_of names.now rest.now }
-{
-    let (first, more) = parts(rest, b',')?;
-    let a = operand(names, first)?;
-    let last = after(b" ", more)?;
-    let b = operand(names, last)?;
-    Some(Op::Binary(BinOp::Add, 32, a, b))
-}
-
-/// The call of the module's first function.
-fn call(alloc: Global, a: Operand) -> Result<Op, Refusal>
-    ensures { Reads (λ o. o) result (Some (call_op a)) }
-{
-    let place = Place {
-        symbol: Symbol::Function(0),
-        base: Ty::Void,
-        indices: List::new(alloc),
-    };
-    let mut args = List::new(alloc);
-    args.push((Ty::Int(32), a))?;
-    Ok(Op::Call(Ty::Int(32), Operand::Const(Const::Address(place)), args))
-}
-
-/// The call of the output function with an operand.
-fn output(alloc: Global, names: &Names, rest: &[u8]) -> Result<Op, Refusal>
-    requires { length names.now < 2 ^ 32 }
-    ensures { Reads (λ o. o) result (call_of names.now rest.now) }
-{
-    let (inner, more) = parts(rest, b')').ok_or(Refusal::LeftOut)?;
-    let a = operand(names, inner).ok_or(Refusal::LeftOut)?;
-    if !more.is_empty() {
-        return Err(Refusal::LeftOut);
-    }
-    call(alloc, a)
-}
-
-/// What a register is assigned.
-fn assigned_value(alloc: Global, declared: bool, names: &Names, rest: &[u8]) -> Result<Op, Refusal>
-    requires { length names.now < 2 ^ 32 }
-    ensures { Reads (λ o. o) result (value_of declared names.now rest.now) }
-{
-    if let Some(more) = after(b"= add i32 ", rest) {
-        return addition(names, more).ok_or(Refusal::LeftOut);
-    }
-    match after(b"= call i32 @putchar(i32 ", rest) {
-        Some(more) if declared => output(alloc, names, more),
-        _ => Err(Refusal::LeftOut),
-    }
-}
-
-/// A line that assigns: a name that is new, and what is assigned.
-fn assignment<'a>(
-    alloc: Global,
+/// What stands before the definition, and the text behind it, which goes on at a place.
+#[derive(Drop)]
+struct Heads<'a> {
     declared: bool,
-    names: &Names,
-    line: &'a [u8],
-) -> Result<(&'a [u8], Op), Refusal>
-    requires { length names.now < 2 ^ 32 }
-    ensures value { Reads (λ p. (p.0.now, p.1)) result (assignment_of declared names.now line.now) }
-    ensures fresh { IfOk result (λ p. register_of names.now p.0.now ≡ None) }
-{
-    let rest = after(b"  %", line).ok_or(Refusal::LeftOut)?;
-    let (name, more) = parts(rest, b' ').ok_or(Refusal::LeftOut)?;
-    if !is_fine_name(name) || register(names, name).is_some() {
-        return Err(Refusal::LeftOut);
-    }
-    let what = assigned_value(alloc, declared, names, more)?;
-    Ok((name, what))
-}
-
-/// Whether nothing stands here but the closing bracket.
-fn is_closed(text: &[u8]) -> bool
-    ensures { result ≡ is_close (lines_of text.now) }
-{
-    match next_line(text) {
-        Some((line, more)) => line == CLOSE && next_line(more).is_none(),
-        None => false,
-    }
-}
-
-/// What the return gives, and after it the closing bracket.
-fn ending(names: &Names, value: &[u8], more: &[u8]) -> Option<Operand>
-    requires { length names.now < 2 ^ 32 }
-    ensures { result ≡ ending_of names.now value.now (lines_of more.now) }
-{
-    if is_closed(more) {
-        operand(names, value)
-    } else {
-        None
-    }
-}
-
-/// Adds a new name at the end.
-fn add_name(names: &mut Names, name: &[u8]) -> Result<(), Refusal>
-    requires room { length names.old + 1 < 2 ^ 32 }
-    requires fresh { register_of names.old name.now ≡ None }
-    ensures { AddsName result names.old names.new name.now }
-{
-    names.number(name)?;
-    Ok(())
-}
-
-/// Adds an instruction that assigns a register.
-fn add_instr(instrs: &mut List<Instr>, register: u32, op: Op) -> Result<(), Refusal>
-    ensures { AddsInstr result instrs.old instrs.new register op }
-{
-    instrs.push(Instr {
-        result: Some(register),
-        inserted: false,
-        op,
-    })?;
-    Ok(())
-}
-
-/// Adds an instruction that a line assigns, and its register's name.
-fn add_line(
-    alloc: Global,
-    declared: bool,
-    names: &mut Names,
-    instrs: &mut List<Instr>,
-    line: &[u8],
-) -> Result<(), Refusal>
-    requires { length names.old + 1 < 2 ^ 32 }
-    ensures { Adds result names.old names.new instrs.old instrs.new (assignment_of declared names.old line.now) }
-{
-    let (name, op) = assignment(alloc, declared, names, line)?;
-    let register = names.len() as u32;
-    add_instr(instrs, register, op)?;
-    add_name(names, name)
-}
-
-/// The lines of a body: the names of its registers and its instructions.
-fn body(alloc: Global, declared: bool, text: &[u8]) -> Result<(List<Bytes>, List<Instr>), Refusal>
-    requires { length text.now < 2 ^ 31 }
-    ensures { Reads (λ b. b) result (body_of declared [] (lines_of text.now)) }
-{
-    let mut names = Names::new(alloc)?;
-    let mut instrs = List::new(alloc);
-    let mut rest = text;
-    while let Some((line, more)) = next_line(rest) {
-        if let Some(value) = after(b"  ret i32 ", line) {
-            let a = ending(&names, value, more).ok_or(Refusal::LeftOut)?;
-            instrs.push(Instr {
-                result: None,
-                inserted: false,
-                op: Op::Ret(Some((Ty::Int(32), a))),
-            })?;
-            return Ok((names.into_list()?, instrs));
-        }
-        add_line(alloc, declared, &mut names, &mut instrs, line)?;
-        rest = more;
-    }
-    Err(Refusal::LeftOut)
+    all: Globals,
+    behind: usize,
+    rest: &'a [u8],
 }
 
 /// The declared output function.
 fn declared_putchar(alloc: Global) -> Result<Function, Refusal>
-    ensures { Reads (λ f. f) result (Some putchar_function) }
+    ensures { Reads (λ f. f) result (Ok putchar_function) }
 {
     let mut params = List::new(alloc);
     params.push((0u32, Ty::Int(32)))?;
@@ -358,7 +69,7 @@ fn defined_main(
     registers: List<Bytes>,
     instrs: List<Instr>,
 ) -> Result<Function, Refusal>
-    ensures { Reads (λ f. f) result (Some (main_function (registers, instrs))) }
+    ensures { Reads (λ f. f) result (Ok (main_function (registers, instrs))) }
 {
     let mut labels = List::new(alloc);
     labels.push(Bytes::from_slice(alloc, b"0")?)?;
@@ -376,61 +87,173 @@ fn defined_main(
     })
 }
 
-/// The module of `main`, and of the output function where it is declared.
-fn whole(alloc: Global, declared: bool, main: Function) -> Result<Module, Refusal>
-    ensures { Reads (λ m. m) result (Some (module_of_main declared main)) }
+/// `main`, and before it the output function where it is declared.
+fn functions(alloc: Global, declared: bool, main: Function) -> Result<List<Function>, Refusal>
+    ensures { Reads (λ fs. fs) result (Ok (functions_with declared main)) }
 {
     let mut functions = List::new(alloc);
     if declared {
         functions.push(declared_putchar(alloc)?)?;
     }
     functions.push(main)?;
-    Ok(Module {
-        layout: Bytes::from_slice(alloc, b"E-p:32:32-i64:64")?,
-        types: List::new(alloc),
+    Ok(functions)
+}
+
+/// Whether a global has this name.
+fn is_taken(all: &Globals, name: &[u8]) -> bool
+    ensures { result ≡ is_global all.now name.now }
+{
+    all.names.find(name).is_some()
+}
+
+/// Adds a global with a new name, whose line stands at a place.
+fn add_global(all: &mut Globals, at: u32, global: GlobalVar) -> Result<(), Refusal>
+    requires room { length all.old.names + 1 < 2 ^ 32 }
+    requires fresh { position (bytes_eq global.name) all.old.names ≡ None }
+    ensures { AddsGlobal result all.old all.new at (Ok global) }
+{
+    all.names.number(global.name.as_slice())?;
+    all.globals.push(global)?;
+    all.places.push(at)?;
+    Ok(())
+}
+
+/// Adds the global of a line.
+fn add_line(
+    alloc: Global,
+    at: u32,
+    declared: bool,
+    all: &mut Globals,
+    line: &[u8],
+) -> Result<(), Refusal>
+    requires room { length all.old.names + 1 < 2 ^ 32 }
+    ensures { AddsGlobal result all.old all.new at (or_at at (global_of declared all.old.names line.now)) }
+{
+    let global = global(alloc, at, declared, &all.names, line)?;
+    add_global(all, at, global)
+}
+
+/// The declaration of the output function.
+fn declare(at: u32, declared: &mut bool, all: &Globals) -> Result<bool, Refusal>
+    ensures { AddsHead result declared.old declared.new all.now all.now (if declared.old || is_global all.now (codes "putchar") then Err at else Ok (Some (true, all.now))) }
+{
+    if *declared || is_taken(all, b"putchar") {
+        return Err(Refusal::LeftOut(at));
+    }
+    *declared = true;
+    Ok(false)
+}
+
+/// A line before the definition; answers whether it is the definition.
+fn head_line(
+    alloc: Global,
+    at: u32,
+    declared: &mut bool,
+    all: &mut Globals,
+    line: &[u8],
+) -> Result<bool, Refusal>
+    requires room { length all.old.names + 1 < 2 ^ 32 }
+    ensures { AddsHead result declared.old declared.new all.old all.new (head_of declared.old all.old at line.now) }
+{
+    if line == DECLARATION {
+        return declare(at, declared, &*all);
+    }
+    if line == DEFINITION {
+        if is_taken(&*all, b"main") {
+            return Err(Refusal::LeftOut(at));
+        }
+        return Ok(true);
+    }
+    add_line(alloc, at, *declared, all, line)?;
+    Ok(false)
+}
+
+/// Globals and the declaration, up to the definition, of a text that goes on at a place.
+fn read_heads(alloc: Global, end: u32, at: usize, text: &[u8]) -> Result<Heads<'_>, Refusal>
+    requires { at + length text.now < 2 ^ 31 }
+    ensures heads { Reads (λ h. ((h.declared, h.all), lines_at h.behind h.rest.now)) result (heads_of end false (record { names = []; globals = []; places = [] }) (lines_at at text.now)) }
+    ensures room { IfOk result (λ h. h.behind + length h.rest.now ≡ at + length text.now) }
+    ensures few { IfOk result (λ h. length h.all.names ≤ length text.now) }
+{
+    let mut declared = false;
+    let mut all = Globals {
+        names: Names::new(alloc)?,
         globals: List::new(alloc),
-        functions,
+        places: List::new(alloc),
+    };
+    let mut place = at;
+    let mut rest = text;
+    while let Some(line) = next_line(place, rest) {
+        if head_line(alloc, line.at as u32, &mut declared, &mut all, line.text)? {
+            return Ok(Heads {
+                declared,
+                all,
+                behind: line.behind,
+                rest: line.rest,
+            });
+        }
+        place = line.behind;
+        rest = line.rest;
+    }
+    Err(Refusal::LeftOut(end))
+}
+
+/// The lines behind the definition.
+fn definition(alloc: Global, end: u32, layout: Bytes, heads: Heads<'_>) -> Result<Read, Refusal>
+    requires room { heads.behind + length heads.rest.now < 2 ^ 31 }
+    requires few { length heads.all.names < 2 ^ 32 }
+    ensures { Reads (λ r. (r.program, r.places)) result (definition_of end layout ((heads.entry.declared, heads.entry.all), lines_at heads.entry.behind heads.entry.rest.now)) }
+{
+    let Heads {
+        declared,
+        all,
+        behind,
+        rest,
+    } = heads;
+    let Globals {
+        names,
+        globals,
+        places,
+    } = all;
+    let (registers, instrs) = body(alloc, end, declared, names, behind, rest)?;
+    let main = defined_main(alloc, registers, instrs)?;
+    let functions = functions(alloc, declared, main)?;
+    Ok(Read {
+        program: Module {
+            layout,
+            types: List::new(alloc),
+            globals,
+            functions,
+        },
+        places,
     })
 }
 
-/// The lines from the definition on.
-fn definition(alloc: Global, declared: bool, text: &[u8]) -> Result<Module, Refusal>
-    requires { length text.now < 2 ^ 31 }
-    ensures { Reads (λ m. m) result (definition_of declared (lines_of text.now)) }
+/// The string of a layout's line.
+fn layout_string(alloc: Global, at: u32, line: &[u8]) -> Result<Bytes, Refusal>
+    ensures { Reads (λ l. l) result (or_at at (layout_in line.now)) }
 {
-    let (line, more) = next_line(text).ok_or(Refusal::LeftOut)?;
-    if line != DEFINITION {
-        return Err(Refusal::LeftOut);
+    let text = after(b"target datalayout = \"", line).ok_or(Refusal::LeftOut(at))?;
+    let (inside, more) = parts(text, b'"').ok_or(Refusal::LeftOut(at))?;
+    if !more.is_empty() {
+        return Err(Refusal::LeftOut(at));
     }
-    let (registers, instrs) = body(alloc, declared, more)?;
-    let main = defined_main(alloc, registers, instrs)?;
-    whole(alloc, declared, main)
-}
-
-/// The lines after that of the layout.
-fn functions(alloc: Global, text: &[u8]) -> Result<Module, Refusal>
-    requires { length text.now < 2 ^ 31 }
-    ensures { Reads (λ m. m) result (functions_of (lines_of text.now)) }
-{
-    let (line, more) = next_line(text).ok_or(Refusal::LeftOut)?;
-    if line == DECLARATION {
-        definition(alloc, true, more)
-    } else {
-        definition(alloc, false, text)
-    }
+    Ok(unescaped(alloc, inside)?)
 }
 
 /// The module that a text means.
 #[tactic(auto, unfolding(crate::specs::Reading::module_of))]
-pub fn read_text(alloc: Global, text: &[u8]) -> Result<Module, Refusal>
-    ensures { Reads (λ m. m) result (module_of text.now) }
+pub fn read_text(alloc: Global, text: &[u8]) -> Result<Read, Refusal>
+    ensures { Reads (λ r. (r.program, r.places)) result (module_of text.now) }
 {
     if text.len() > TEXT_LIMIT as usize {
-        return Err(Refusal::LeftOut);
+        return Err(Refusal::LeftOut(TEXT_LIMIT));
     }
-    let (line, more) = next_line(text).ok_or(Refusal::LeftOut)?;
-    if line != LAYOUT {
-        return Err(Refusal::LeftOut);
-    }
-    functions(alloc, more)
+    let end = text.len() as u32;
+    let Some(line) = next_line(0, text) else {
+        return Err(Refusal::LeftOut(end));
+    };
+    let layout = layout_string(alloc, line.at as u32, line.text)?;
+    let heads = read_heads(alloc, end, line.behind, line.rest)?;
+    definition(alloc, end, layout, heads)
 }

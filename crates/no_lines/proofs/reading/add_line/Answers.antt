@@ -1,7 +1,8 @@
-use Rattle.no_lines.proofs.Bodies.{added_line}
+use Rattle.std.proofs.Common.{sym, subst, Result, ℕ}
+use Rattle.no_ir.specs.declared.function.GlobalVar.{GlobalVar}
+use Rattle.no_lines.specs.Answers.{AddsGlobal}
 use Rattle.no_lines.proofs.reading.add_line.Goals as goal
 
 pub returns : goal.returns
 returns c =
-    added_line c.add_name.result c.args.declared c.args.line.now c.args.names.now _ c.args.instrs.now _ c.in_ok-name.name.now c.in_ok-name.op _
-    c.in_ok-name.ensures.value c.len-register.ensures c.in_ok-add_instr.ensures c.add_name.ensures
+    subst (λ (read : Result GlobalVar ℕ). AddsGlobal c.add_global.result c.args.all.now c.add_global.new.all c.args.at read) (sym c.in_ok-global.ensures.value) c.add_global.ensures

@@ -1,8 +1,8 @@
 -- Cutting a text at a byte, and its lines.
-use Rattle.std.proofs.Common.{◌≡◌, ◌≢◌, ℕ, ◌<◌, ◌≤◌, true, false, ◌==◌, List, [], ◌∷◌, ◌++◌, length, refl, sym, ap, ◌∙◌, append_assoc, append-nil, inl, inr, Option, Some, None, filter, arith}
+use Rattle.std.proofs.Common.{◌≡◌, ◌≢◌, ℕ, ◌+◌, ◌<◌, ◌≤◌, true, false, ◌==◌, List, [], ◌∷◌, ◌++◌, length, refl, sym, ap, ◌∙◌, append_assoc, append-nil, inl, inr, Option, Some, None, filter, arith}
 use Rattle.std.specs.Prelude.{option_map}
 use Rattle.std.proofs.lemmas.Bool.{cases_Bool}
-use Rattle.no_lines.specs.Reading.{cut, split, glue, is_full, lines_of}
+use Rattle.no_lines.specs.Pieces.{cut, split, glue, placed, lines_at}
 
 abbrev pub Pieces : Type 0
 Pieces = List ℕ × List ℕ
@@ -81,16 +81,16 @@ split_some b (x ∷ xs) p e = elim (cases_Bool (x == b)) [
 
 -- ---- the lines that are not empty
 
-pub lines_last : (xs : List ℕ) → xs ≢ [] → cut 10 xs ≡ None → lines_of xs ≡ xs ∷ []
-lines_last [] full e = absurd (full refl)
-lines_last (x ∷ xs) full e = ap (filter is_full) (split_none 10 (x ∷ xs) e)
+pub lines_last : (at behind : ℕ) (xs : List ℕ) → xs ≢ [] → cut 10 xs ≡ None → lines_at at xs ≡ (at, xs) ∷ lines_at behind []
+lines_last at behind [] full e = absurd (full refl)
+lines_last at behind (x ∷ xs) full e = ap (placed at) (split_none 10 (x ∷ xs) e)
 
-pub lines_after : (xs : List ℕ) (p : Pieces) → p.0 ≡ [] → cut 10 xs ≡ Some p → lines_of xs ≡ lines_of p.1
-lines_after xs p empty e = ap (filter is_full) (split_some 10 xs p e) ∙ rw empty refl
+pub lines_after : (at : ℕ) (xs : List ℕ) (p : Pieces) → p.0 ≡ [] → cut 10 xs ≡ Some p → lines_at at xs ≡ lines_at (at + 1) p.1
+lines_after at xs p empty e = ap (placed at) (split_some 10 xs p e) ∙ rw empty refl
 
-pub lines_more : (xs : List ℕ) (p : Pieces) → p.0 ≢ [] → cut 10 xs ≡ Some p → lines_of xs ≡ p.0 ∷ lines_of p.1
-lines_more xs p full e = ap (filter is_full) (split_some 10 xs p e) ∙ kept p.0 full
+pub lines_more : (at : ℕ) (xs : List ℕ) (p : Pieces) → p.0 ≢ [] → cut 10 xs ≡ Some p → lines_at at xs ≡ (at, p.0) ∷ lines_at (at + length p.0 + 1) p.1
+lines_more at xs p full e = ap (placed at) (split_some 10 xs p e) ∙ kept p.0 full
   where
-    kept : (line : List ℕ) → line ≢ [] → filter is_full (line ∷ split 10 p.1) ≡ line ∷ lines_of p.1
+    kept : (line : List ℕ) → line ≢ [] → placed at (line ∷ split 10 p.1) ≡ (at, line) ∷ lines_at (at + length line + 1) p.1
     kept [] full = absurd (full refl)
     kept (x ∷ line) full = refl

@@ -1,11 +1,10 @@
--- Registers by name.
+-- Registers and globals by name.
 use Rattle.std.proofs.Common.{◌≡◌, ℕ, suc, ◌+◌, ◌<◌, ◌≤◌, Bool, true, false, cond, not, ◌||◌, List, [], ◌∷◌, ◌++◌, length, position, bytes_eq, Some, None, refl, sym, ◌∙◌, arith, inl, inr}
 use Rattle.std.specs.Prelude.{nat_lt}
 use Rattle.std.specs.List.{list_any, position_or_len}
 use Rattle.std.proofs.lemmas.Bool.{cases_Bool, ltb-false}
 use Rattle.std.proofs.lemmas.List.Quantifiers.{position-Some}
 use Rattle.no_ir.specs.Naming.{with_name}
-use Rattle.no_lines.specs.Reading.{register_of}
 
 -- a place that was found is one of the list's
 pub place_within : (names : List (List ℕ)) (name : List ℕ) (at : ℕ) → Some at ≡ position (bytes_eq name) names → at < length names
@@ -29,7 +28,6 @@ found_none p names e = elim (cases_Bool (nat_lt (position_or_len p names) (lengt
     some_not_none : (n : ℕ) → Some n ≡ None → ⊥
     some_not_none n h = cc
 
--- a register that was not found has a new name
-pub added_name : (names names' : List (List ℕ)) (name : List ℕ) → register_of names name ≡ None → names' ≡ with_name names name → names' ≡ names ++ name ∷ []
-unfolding register_of
+-- a name that was not found is a new one
+pub added_name : (names names' : List (List ℕ)) (name : List ℕ) → position (bytes_eq name) names ≡ None → names' ≡ with_name names name → names' ≡ names ++ name ∷ []
 added_name names names' name fresh named = named ∙ rw (none_passes (bytes_eq name) names (found_none (bytes_eq name) names fresh)) refl
