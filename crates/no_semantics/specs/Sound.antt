@@ -1,11 +1,14 @@
 -- Modules of which a machine runs each instruction.
-use Rattle.std.specs.Prelude.{ℕ, Bool, true, false, ◌&&◌, ◌||◌, ◌==◌, nat_lt, List, [], ◌∷◌, Option, Some, None}
+use Rattle.std.specs.Prelude.{ℕ, ◌+◌, ◌^◌, Bool, true, false, ◌&&◌, ◌||◌, ◌==◌, nat_lt, List, [], ◌∷◌, length, map, Option, Some, None}
 use Rattle.std.specs.List.{list_all}
 use Rattle.no_ir.specs.declared.types.Ty.{Ty, out-Ty}
 use Rattle.no_ir.specs.declared.types.Ty.TheOpen.{Ty-F}
+use Rattle.no_ir.specs.declared.types.Ty.TheVariants as ty
 use Rattle.no_ir.specs.declared.constant.Const.{Const}
 use Rattle.no_ir.specs.declared.constant.Const.TheVariants as const
 use Rattle.no_ir.specs.declared.constant.Place.{Place}
+use Rattle.no_ir.specs.declared.constant.Symbol.{Symbol}
+use Rattle.no_ir.specs.declared.constant.Symbol.TheVariants as symbol
 use Rattle.no_ir.specs.declared.instruction.CastOp.{CastOp}
 use Rattle.no_ir.specs.declared.instruction.CastOp.TheVariants as cast
 use Rattle.no_ir.specs.declared.instruction.Operand.{Operand}
@@ -16,10 +19,12 @@ use Rattle.no_ir.specs.declared.instruction.Instr.{Instr}
 use Rattle.no_ir.specs.declared.function.Block.{Block}
 use Rattle.no_ir.specs.declared.function.Function.{Function}
 use Rattle.no_ir.specs.declared.function.Module.{Module}
-use Rattle.no_layout.specs.Sizes.{measure_of}
+use Rattle.no_eval.specs.Numbers.{modulo}
+use Rattle.no_layout.specs.Sizes.{measure_of, type_size, type_align}
 use Rattle.no_layout.specs.Text.{is_formed}
 use Rattle.no_layout.specs.declared.extent.Extent.{Extent}
 use Rattle.no_layout.specs.declared.layout.Layout.{Layout}
+use Rattle.no_semantics.specs.Indices.{path_leads}
 use Rattle.no_semantics.specs.Lists.{is_empty}
 use Rattle.no_semantics.specs.Values.{width_of}
 
@@ -49,6 +54,30 @@ goes_between cast.SExt from to = nat_lt from to
 goes_between cast.PtrToInt from to = true
 goes_between cast.IntToPtr from to = true
 goes_between cast.BitCast from to = from == to
+
+-- ---- named types
+
+abbrev pub same_numbers : Layout → List Extent → Ty → Ty → Bool
+same_numbers l sizes t u = type_size l sizes t == type_size l sizes u && type_align l sizes t == type_align l sizes u
+
+-- named type k fits, and the table has its numbers
+abbrev pub entry_holds : Layout → List Extent → ℕ → Ty → Bool
+entry_holds l sizes k t = type_fits l sizes t && (nat_lt k (2 ^ 32) && (type_fits l sizes (ty.Named k) && same_numbers l sizes (ty.Named k) t))
+
+-- so do these named types, from type k on
+abbrev pub table_holds : Layout → List Extent → ℕ → List (List ℕ × Ty) → Bool
+table_holds l sizes k [] = true
+table_holds l sizes k (named ∷ more) = entry_holds l sizes k named.1 && table_holds l sizes (k + 1) more
+
+-- ---- places in constants: the module has the symbol, and the indices lead somewhere
+
+abbrev pub symbol_fits : Module → Symbol → Bool
+symbol_fits m (symbol.Global k) = nat_lt k (length m.globals)
+symbol_fits m (symbol.Function k) = nat_lt k (length m.functions)
+symbol_fits m _ = false
+
+abbrev pub place_fits : Module → Layout → List Extent → Place → Bool
+place_fits m l sizes place = symbol_fits m place.symbol && (type_fits l sizes place.base && path_leads m.types place.base (map (modulo l.pointer) place.indices))
 
 -- ---- operands: a register, a number, null, or the bare name of a global or function
 
@@ -105,6 +134,6 @@ block_fits l sizes b = list_all (λ (i : Instr). op_fits l sizes i.op) b.instrs
 abbrev pub function_fits : Layout → List Extent → Function → Bool
 function_fits l sizes f = list_all (block_fits l sizes) f.blocks
 
--- the layout is one that a layout string states, and a machine runs each instruction
+-- the layout is one that a layout string states, the sizes are those of the named types, and a machine runs each instruction
 unfoldable pub is_sound : Module → Layout → List Extent → Bool
-is_sound m l sizes = is_formed l && list_all (function_fits l sizes) m.functions
+is_sound m l sizes = is_formed l && (table_holds l sizes 0 m.types && list_all (function_fits l sizes) m.functions)

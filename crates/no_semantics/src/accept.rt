@@ -1,9 +1,11 @@
-ghost use Rattle.std.specs.Prelude.{◌≡◌, IsTrue};
+ghost use Rattle.std.specs.Prelude.{◌≡◌, ◌&&◌, IsTrue, true};
 ghost use Rattle.no_layout.specs.Text.{is_formed};
 ghost use Rattle.no_semantics.specs.Values.{width_of};
-ghost use Rattle.no_semantics.specs.Sound.{align_fits, args_fit, block_fits, count_fits, function_fits, goes_between, indices_fit, is_scalar, is_sound, is_width, op_fits, operand_fits, type_fits};
+ghost use Rattle.std.specs.List.{list_all};
+ghost use Rattle.no_semantics.specs.Sound.{align_fits, args_fit, block_fits, count_fits, entry_holds, function_fits, goes_between, indices_fit, is_scalar, is_sound, is_width, op_fits, operand_fits, place_fits, same_numbers, symbol_fits, table_holds, type_fits};
 
-use no_ir::{Block, CastOp, Const, Function, Module, Op, Operand, Ty};
+use crate::indices::path_leads;
+use no_ir::{Block, Bytes, CastOp, Const, Function, Module, Op, Operand, Place, Symbol, Ty};
 use no_layout::{Layout, Sizes};
 
 /// Whether a machine runs each instruction of a module.
@@ -14,12 +16,83 @@ pub fn check(program: &Module, layout: &Layout, sizes: &Sizes) -> bool
     requires { IsTrue (is_formed layout.now) }
     ensures { result ≡ is_sound program.now layout.now sizes.now }
 {
-    for function in program.functions.as_slice() {
+    checks_types(program.types.as_slice(), layout, sizes)
+        && checks_functions(program.functions.as_slice(), layout, sizes)
+}
+
+/// Whether the table has the numbers of each named type.
+fn checks_types(types: &[(Bytes, Ty)], layout: &Layout, sizes: &Sizes) -> bool
+    requires { IsTrue (is_formed layout.now) }
+    ensures { result ≡ table_holds layout.now sizes.now 0 types.now }
+{
+    for (k, named) in types.iter().enumerate() {
+        if !checks_named(layout, sizes, k, &named.1) {
+            return false;
+        }
+    }
+    true
+}
+
+/// Whether named type k fits, and the table has its numbers.
+fn checks_named(layout: &Layout, sizes: &Sizes, k: usize, t: &Ty) -> bool
+    requires { IsTrue (is_formed layout.now) }
+    ensures { result ≡ entry_holds layout.now sizes.now k t.now }
+{
+    checks_type(layout, sizes, t)
+        && match u32::try_from(k) {
+            Ok(number) => has_numbers(layout, sizes, &Ty::Named(number), t),
+            Err(_) => false,
+        }
+}
+
+/// Whether a type fits, and has the numbers of another that does.
+fn has_numbers(layout: &Layout, sizes: &Sizes, name: &Ty, t: &Ty) -> bool
+    requires formed { IsTrue (is_formed layout.now) }
+    requires fits { type_fits layout.now sizes.now t.now ≡ true }
+    ensures { result ≡ type_fits layout.now sizes.now name.now && same_numbers layout.now sizes.now name.now t.now }
+{
+    checks_type(layout, sizes, name)
+        && (layout.size(sizes, name) == layout.size(sizes, t)
+            && layout.align(sizes, name) == layout.align(sizes, t))
+}
+
+fn checks_functions(functions: &[Function], layout: &Layout, sizes: &Sizes) -> bool
+    requires { IsTrue (is_formed layout.now) }
+    ensures { result ≡ list_all (function_fits layout.now sizes.now) functions.now }
+{
+    for function in functions {
         if !checks_function(function, layout, sizes) {
             return false;
         }
     }
     true
+}
+
+/// Whether the module has a symbol.
+fn has_symbol(program: &Module, symbol: &Symbol) -> bool
+    ensures { result ≡ symbol_fits program.now symbol.now }
+{
+    match symbol {
+        Symbol::Global(k) => (*k as usize) < program.globals.len(),
+        Symbol::Function(k) => (*k as usize) < program.functions.len(),
+        Symbol::Unknown(_) => false,
+    }
+}
+
+/// Whether a place in a constant is one that the module has.
+#[tactic(auto, using(crate::proofs::Facts::pointer_some, crate::proofs::Facts::pointer_most))]
+pub fn has_place(program: &Module, layout: &Layout, sizes: &Sizes, place: &Place) -> bool
+    requires { IsTrue (is_formed layout.now) }
+    ensures { result ≡ place_fits program.now layout.now sizes.now place.now }
+{
+    has_symbol(program, &place.symbol)
+        && (checks_type(layout, sizes, &place.base)
+            && path_leads(
+                program,
+                layout.pointer,
+                &place.base,
+                place.indices.as_slice(),
+            ))
 }
 
 fn checks_function(function: &Function, layout: &Layout, sizes: &Sizes) -> bool
