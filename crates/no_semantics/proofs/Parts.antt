@@ -38,7 +38,7 @@ module _ (l : Layout) (sizes : List Extent) where
   named_is k = search (rules, the_lemmas)
 
   -- an element or a field of a type that fits fits
-  in_struct : (packed : Bool) (fields : List Ty) (i : ℕ) (u : Ty) → (whole packed (fields_of packed (map (measure_of l sizes) fields))).fits ≡ true
+  pub in_struct : (packed : Bool) (fields : List Ty) (i : ℕ) (u : Ty) → (whole packed (fields_of packed (map (measure_of l sizes) fields))).fits ≡ true
       → slice_get fields i ≡ Some u → type_fits l sizes u ≡ true
   in_struct packed fields i u fits is = elim (cases_Bool (type_fits l sizes u)) [
     | inl holds ↦ holds

@@ -6,23 +6,12 @@ ghost use Rattle.no_semantics.specs.Indices.{index_offset, inner_leads, inner_of
 ghost use Rattle.no_semantics.specs.Sound.{place_fits, table_holds, type_fits};
 ghost use Rattle.no_semantics.specs.Values.{place_number, symbol_number};
 
-use no_eval::cast;
-use crate::Sound;
-use no_ir::{CastOp, Module, Place, Symbol, Ty};
+use crate::{Sound, narrowed, pointer_width};
+use no_ir::{Module, Place, Symbol, Ty};
 use no_layout::{Layout, Sizes};
 
 /// Where the first function stands.
 const FUNCTIONS: u64 = 0xF000_0000;
-
-/// The low w bits of a number.
-pub fn narrowed(w: u8, n: u64) -> u64
-    requires some { 0 < w }
-    requires most { w ≤ 64 }
-    ensures value { result ≡ n % 2 ^ w }
-    ensures within { result < 2 ^ w }
-{
-    cast(CastOp::PtrToInt, 64, w, n)
-}
 
 /// The number of w bits that equals an index modulo 2^w.
 #[tactic(auto, using(no_eval::proofs::Widths::congruent))]
@@ -153,16 +142,6 @@ fn inner_offset(sound: &Sound, base: &Ty, indices: &[i64]) -> u64
         }
     }
     total
-}
-
-/// The width of a pointer in bits.
-#[tactic(auto, using(crate::proofs::Facts::pointer_some, crate::proofs::Facts::pointer_most))]
-pub fn pointer_width(sound: &Sound) -> u8
-    ensures value { result ≡ sound.now.layout.pointer }
-    ensures some { 0 < result }
-    ensures most { result ≤ 64 }
-{
-    sound.layout().pointer
 }
 
 /// The address of a global or a function. The addresses are those of the module's globals, in their order.

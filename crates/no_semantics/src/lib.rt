@@ -6,9 +6,11 @@ mod frame;
 mod image;
 mod indices;
 mod sound;
+mod widths;
 
 pub use accept::{check, has_place, width};
 pub use frame::Frame;
 pub use image::Image;
-pub use indices::{index_offset, narrowed, part, place_address, pointer_width, resolved, symbol_address};
+pub use indices::{index_offset, part, place_address, resolved, symbol_address, with_first};
 pub use sound::Sound;
+pub use widths::{bytes_of, narrowed, pointer_width, width_at};
