@@ -1,3 +1,4 @@
 pub mod Placed
 pub mod Initial
 pub mod Emitted
+pub mod Lengths

@@ -17,10 +17,10 @@ and_left : (a b : Bool) → (a && b) ≡ true → a ≡ true
 and_left true b e = refl
 and_left false b e = absurd cc
 
-abbrev Known : ℕ → Type 0
+abbrev pub Known : ℕ → Type 0
 Known w = (w ≡ 1) ⊎ ((w ≡ 8) ⊎ ((w ≡ 16) ⊎ ((w ≡ 32) ⊎ (w ≡ 64))))
 
-known : (w : ℕ) → is_width w ≡ true → Known w
+pub known : (w : ℕ) → is_width w ≡ true → Known w
 known w e = elim (or_cases (w == 1) (w == 8 || (w == 16 || (w == 32 || w == 64))) e) [
   | inl is ↦ inl (eqb-true w 1 is)
   | inr e ↦ inr (elim (or_cases (w == 8) (w == 16 || (w == 32 || w == 64)) e) [
