@@ -34,34 +34,34 @@ each_at p xs k x all is = elim (cases_Bool (p x)) [
 
 pub layout_formed : (m : Module) (l : Layout) (sizes : List Extent) → is_sound m l sizes ≡ true → IsTrue (is_formed l)
 unfolding is_sound
-layout_formed m l sizes e = true_is (is_formed l) (both (is_formed l) (table_holds l sizes 0 m.types && list_all (function_fits l sizes) m.functions) e).0
+layout_formed m l sizes e = true_is (is_formed l) (both (is_formed l) (table_holds l sizes 0 m.types && list_all (function_fits m l sizes) m.functions) e).0
 
 -- the table has the numbers of each named type
 pub table_is : (m : Module) (l : Layout) (sizes : List Extent) → is_sound m l sizes ≡ true → table_holds l sizes 0 m.types ≡ true
 unfolding is_sound
 table_is m l sizes e =
-    (both (table_holds l sizes 0 m.types) (list_all (function_fits l sizes) m.functions) (both (is_formed l) (table_holds l sizes 0 m.types && list_all (function_fits l sizes) m.functions) e).1).0
+    (both (table_holds l sizes 0 m.types) (list_all (function_fits m l sizes) m.functions) (both (is_formed l) (table_holds l sizes 0 m.types && list_all (function_fits m l sizes) m.functions) e).1).0
 
-in_block : (l : Layout) (sizes : List Extent) (b : Block) (k : ℕ) (o : Option Instr) → slice_get b.instrs k ≡ o → block_fits l sizes b ≡ true
-    → IfSome o (λ i. op_fits l sizes i.op ≡ true)
-in_block l sizes b k None is e = tt
-in_block l sizes b k (Some i) is e = each_at (λ (i : Instr). op_fits l sizes i.op) b.instrs k i e is
+in_block : (m : Module) (l : Layout) (sizes : List Extent) (b : Block) (k : ℕ) (o : Option Instr) → slice_get b.instrs k ≡ o → block_fits m l sizes b ≡ true
+    → IfSome o (λ i. op_fits m l sizes i.op ≡ true)
+in_block m l sizes b k None is e = tt
+in_block m l sizes b k (Some i) is e = each_at (λ (i : Instr). op_fits m l sizes i.op) b.instrs k i e is
 
-in_function : (l : Layout) (sizes : List Extent) (f : Function) (b k : ℕ) (o : Option Block) → slice_get f.blocks b ≡ o → function_fits l sizes f ≡ true
-    → IfSome (instr_in o k) (λ i. op_fits l sizes i.op ≡ true)
-in_function l sizes f b k None is e = tt
-in_function l sizes f b k (Some block) is e = in_block l sizes block k (slice_get block.instrs k) refl (each_at (block_fits l sizes) f.blocks b block e is)
+in_function : (m : Module) (l : Layout) (sizes : List Extent) (f : Function) (b k : ℕ) (o : Option Block) → slice_get f.blocks b ≡ o → function_fits m l sizes f ≡ true
+    → IfSome (instr_in o k) (λ i. op_fits m l sizes i.op ≡ true)
+in_function m l sizes f b k None is e = tt
+in_function m l sizes f b k (Some block) is e = in_block m l sizes block k (slice_get block.instrs k) refl (each_at (block_fits m l sizes) f.blocks b block e is)
 
-in_module : (m : Module) (l : Layout) (sizes : List Extent) (g b k : ℕ) (o : Option Function) → slice_get m.functions g ≡ o → list_all (function_fits l sizes) m.functions ≡ true
-    → IfSome (instr_in (block_at o b) k) (λ i. op_fits l sizes i.op ≡ true)
+in_module : (m : Module) (l : Layout) (sizes : List Extent) (g b k : ℕ) (o : Option Function) → slice_get m.functions g ≡ o → list_all (function_fits m l sizes) m.functions ≡ true
+    → IfSome (instr_in (block_at o b) k) (λ i. op_fits m l sizes i.op ≡ true)
 in_module m l sizes g b k None is e = tt
-in_module m l sizes g b k (Some f) is e = in_function l sizes f b k (slice_get f.blocks b) refl (each_at (function_fits l sizes) m.functions g f e is)
+in_module m l sizes g b k (Some f) is e = in_function m l sizes f b k (slice_get f.blocks b) refl (each_at (function_fits m l sizes) m.functions g f e is)
 
-pub instr_fits : (m : Module) (l : Layout) (sizes : List Extent) (at : Frame) → is_sound m l sizes ≡ true → IfSome (instr_at m at) (λ i. op_fits l sizes i.op ≡ true)
+pub instr_fits : (m : Module) (l : Layout) (sizes : List Extent) (at : Frame) → is_sound m l sizes ≡ true → IfSome (instr_at m at) (λ i. op_fits m l sizes i.op ≡ true)
 unfolding is_sound
 instr_fits m l sizes at e =
     in_module m l sizes at.function at.block at.at (slice_get m.functions at.function) refl
-    (both (table_holds l sizes 0 m.types) (list_all (function_fits l sizes) m.functions) (both (is_formed l) (table_holds l sizes 0 m.types && list_all (function_fits l sizes) m.functions) e).1).1
+    (both (table_holds l sizes 0 m.types) (list_all (function_fits m l sizes) m.functions) (both (is_formed l) (table_holds l sizes 0 m.types && list_all (function_fits m l sizes) m.functions) e).1).1
 
 -- ---- the width of a pointer
 

@@ -78,7 +78,7 @@ field_in packed fields i o is some = elim (cases_Bool (nat_lt i (2 ^ 31))) [
 ]
   where
     known_field : (o : Option Ty) → slice_get fields i ≡ o → i < length fields
-    known_field None is = absurd (some (elim (cases_Bool (nat_lt i (2 ^ 31))) [ | inl low ↦ rw low is | inr high ↦ rw high refl ]))
+    known_field None is = absurd (some (elim (cases_Bool (nat_lt i (2 ^ 31))) [ inl low ↦ rw low is | inr high ↦ rw high refl ]))
     known_field (Some u) is = slice_get_within fields i u is
 
 pub has_field : (t : Ty) (packed : Bool) (fields : List Ty) (i : ℕ) → t ≡ ty.Struct packed fields → part_of t i ≢ None → HasField t i
@@ -123,10 +123,11 @@ module _ (l : Layout) (sizes : List Extent) where
         let more = and_parts (nat_lt k (2 ^ 32)) _ parts.1 in
         let numbers = and_parts (type_fits l sizes (ty.Named k)) _ more.1 in
         let both = and_parts (type_size l sizes (ty.Named k) == type_size l sizes named.1) _ numbers.1 in
-        let name : measure_of l sizes t ≡ measure_of l sizes (ty.Named k) = rolled l sizes t (Ty-F.Named k) shape ∙ sym (named_is l sizes k) in
-        (parts.0,
-        sym (ap (λ (m : Measure). m.size) name ∙ eqb-true (type_size l sizes (ty.Named k)) (type_size l sizes named.1) both.0),
-        sym (ap (λ (m : Measure). m.align) name ∙ eqb-true (type_align l sizes (ty.Named k)) (type_align l sizes named.1) both.1))
+        let name : measure_of l sizes t ≡ measure_of l sizes (ty.Named k) = rolled l sizes t (Ty-F.Named k) shape ∙ sym (named_is l sizes k) in (
+          parts.0,
+          sym (ap (λ (m : Measure). m.size) name ∙ eqb-true (type_size l sizes (ty.Named k)) (type_size l sizes named.1) both.0),
+          sym (ap (λ (m : Measure). m.align) name ∙ eqb-true (type_align l sizes (ty.Named k)) (type_align l sizes named.1) both.1),
+        )
 
     alike_defined : (k : ℕ) (o : Option (List ℕ × Ty)) → out-Ty t ≡ Ty-F.Named k → slice_get types k ≡ o → type_fits l sizes t ≡ true → Alike (defined t o)
     alike_defined k None shape is fits = (fits, refl, refl)

@@ -25,7 +25,6 @@ use Rattle.no_layout.specs.Text.{is_formed}
 use Rattle.no_layout.specs.declared.extent.Extent.{Extent}
 use Rattle.no_layout.specs.declared.layout.Layout.{Layout}
 use Rattle.no_semantics.specs.Indices.{path_leads}
-use Rattle.no_semantics.specs.Lists.{is_empty}
 use Rattle.no_semantics.specs.Values.{width_of}
 
 -- ---- types
@@ -79,25 +78,22 @@ symbol_fits m _ = false
 abbrev pub place_fits : Module → Layout → List Extent → Place → Bool
 place_fits m l sizes place = symbol_fits m place.symbol && (type_fits l sizes place.base && path_leads m.types place.base (map (modulo l.pointer) place.indices))
 
--- ---- operands: a register, a number, null, or the bare name of a global or function
+-- ---- operands: a register, a number, null, or a place that the module has
 
-abbrev pub is_bare : Place → Bool
-is_bare place = is_empty place.indices
+abbrev pub constant_fits : Module → Layout → List Extent → Const → Bool
+constant_fits m l sizes (const.Address place) = place_fits m l sizes place
+constant_fits m l sizes (const.AddressAsInt place) = place_fits m l sizes place
+constant_fits m l sizes _ = true
 
-abbrev pub constant_fits : Const → Bool
-constant_fits (const.Address place) = is_bare place
-constant_fits (const.AddressAsInt place) = is_bare place
-constant_fits _ = true
-
-abbrev pub operand_fits : Operand → Bool
-operand_fits (operand.Reg r) = true
-operand_fits (operand.Const c) = constant_fits c
+abbrev pub operand_fits : Module → Layout → List Extent → Operand → Bool
+operand_fits m l sizes (operand.Reg r) = true
+operand_fits m l sizes (operand.Const c) = constant_fits m l sizes c
 
 -- ---- instructions
 
-abbrev pub count_fits : Option (ℕ × Operand) → Bool
-count_fits None = true
-count_fits (Some count) = is_width count.0 && operand_fits count.1
+abbrev pub count_fits : Module → Layout → List Extent → Option (ℕ × Operand) → Bool
+count_fits m l sizes None = true
+count_fits m l sizes (Some count) = is_width count.0 && operand_fits m l sizes count.1
 
 -- a stated alignment is at least 1
 abbrev pub align_fits : Option ℕ → Bool
@@ -105,35 +101,35 @@ align_fits None = true
 align_fits (Some align) = nat_lt 0 align
 
 -- one index
-abbrev pub indices_fit : List (ℕ × Operand) → Bool
-indices_fit (index ∷ []) = is_width index.0 && operand_fits index.1
-indices_fit _ = false
+abbrev pub indices_fit : Module → Layout → List Extent → List (ℕ × Operand) → Bool
+indices_fit m l sizes (index ∷ []) = is_width index.0 && operand_fits m l sizes index.1
+indices_fit m l sizes _ = false
 
-abbrev pub args_fit : List (Ty × Operand) → Bool
-args_fit args = list_all (λ arg. operand_fits arg.1) args
+abbrev pub args_fit : Module → Layout → List Extent → List (Ty × Operand) → Bool
+args_fit m l sizes args = list_all (λ arg. operand_fits m l sizes arg.1) args
 
-abbrev pub op_fits : Layout → List Extent → Op → Bool
-op_fits l sizes (op.Binary o w a b) = is_width w && (operand_fits a && operand_fits b)
-op_fits l sizes (op.Compare o t a b) = is_scalar t && (operand_fits a && operand_fits b)
-op_fits l sizes (op.Cast o t a u) = (is_scalar t && is_scalar u) && (goes_between o (width_of l t) (width_of l u) && operand_fits a)
-op_fits l sizes (op.Freeze t a) = is_scalar t && operand_fits a
-op_fits l sizes (op.Select c t a b) = (is_scalar t && operand_fits c) && (operand_fits a && operand_fits b)
-op_fits l sizes (op.Alloca t count align) = type_fits l sizes t && (count_fits count && align_fits align)
-op_fits l sizes (op.Load volatile t a) = is_scalar t && operand_fits a
-op_fits l sizes (op.Store volatile t v a) = is_scalar t && (operand_fits v && operand_fits a)
-op_fits l sizes (op.Gep t a indices) = type_fits l sizes t && (operand_fits a && indices_fit indices)
-op_fits l sizes (op.Call t g args) = args_fit args
-op_fits l sizes (op.Ret (Some x)) = is_scalar x.0 && operand_fits x.1
-op_fits l sizes _ = false
+abbrev pub op_fits : Module → Layout → List Extent → Op → Bool
+op_fits m l sizes (op.Binary o w a b) = is_width w && (operand_fits m l sizes a && operand_fits m l sizes b)
+op_fits m l sizes (op.Compare o t a b) = is_scalar t && (operand_fits m l sizes a && operand_fits m l sizes b)
+op_fits m l sizes (op.Cast o t a u) = (is_scalar t && is_scalar u) && (goes_between o (width_of l t) (width_of l u) && operand_fits m l sizes a)
+op_fits m l sizes (op.Freeze t a) = is_scalar t && operand_fits m l sizes a
+op_fits m l sizes (op.Select c t a b) = (is_scalar t && operand_fits m l sizes c) && (operand_fits m l sizes a && operand_fits m l sizes b)
+op_fits m l sizes (op.Alloca t count align) = type_fits l sizes t && (count_fits m l sizes count && align_fits align)
+op_fits m l sizes (op.Load volatile t a) = is_scalar t && operand_fits m l sizes a
+op_fits m l sizes (op.Store volatile t v a) = is_scalar t && (operand_fits m l sizes v && operand_fits m l sizes a)
+op_fits m l sizes (op.Gep t a indices) = type_fits l sizes t && (operand_fits m l sizes a && indices_fit m l sizes indices)
+op_fits m l sizes (op.Call t g args) = args_fit m l sizes args
+op_fits m l sizes (op.Ret (Some x)) = is_scalar x.0 && operand_fits m l sizes x.1
+op_fits m l sizes _ = false
 
 -- ---- modules
 
-abbrev pub block_fits : Layout → List Extent → Block → Bool
-block_fits l sizes b = list_all (λ (i : Instr). op_fits l sizes i.op) b.instrs
+abbrev pub block_fits : Module → Layout → List Extent → Block → Bool
+block_fits m l sizes b = list_all (λ (i : Instr). op_fits m l sizes i.op) b.instrs
 
-abbrev pub function_fits : Layout → List Extent → Function → Bool
-function_fits l sizes f = list_all (block_fits l sizes) f.blocks
+abbrev pub function_fits : Module → Layout → List Extent → Function → Bool
+function_fits m l sizes f = list_all (block_fits m l sizes) f.blocks
 
 -- the layout is one that a layout string states, the sizes are those of the named types, and a machine runs each instruction
 unfoldable pub is_sound : Module → Layout → List Extent → Bool
-is_sound m l sizes = is_formed l && (table_holds l sizes 0 m.types && list_all (function_fits l sizes) m.functions)
+is_sound m l sizes = is_formed l && (table_holds l sizes 0 m.types && list_all (function_fits m l sizes) m.functions)

@@ -17,7 +17,7 @@ pub fn check(program: &Module, layout: &Layout, sizes: &Sizes) -> bool
     ensures { result ≡ is_sound program.now layout.now sizes.now }
 {
     checks_types(program.types.as_slice(), layout, sizes)
-        && checks_functions(program.functions.as_slice(), layout, sizes)
+        && checks_functions(program, program.functions.as_slice(), layout, sizes)
 }
 
 /// Whether the table has the numbers of each named type.
@@ -56,12 +56,17 @@ fn has_numbers(layout: &Layout, sizes: &Sizes, name: &Ty, t: &Ty) -> bool
             && layout.align(sizes, name) == layout.align(sizes, t))
 }
 
-fn checks_functions(functions: &[Function], layout: &Layout, sizes: &Sizes) -> bool
+fn checks_functions(
+    program: &Module,
+    functions: &[Function],
+    layout: &Layout,
+    sizes: &Sizes,
+) -> bool
     requires { IsTrue (is_formed layout.now) }
-    ensures { result ≡ list_all (function_fits layout.now sizes.now) functions.now }
+    ensures { result ≡ list_all (function_fits program.now layout.now sizes.now) functions.now }
 {
     for function in functions {
-        if !checks_function(function, layout, sizes) {
+        if !checks_function(program, function, layout, sizes) {
             return false;
         }
     }
@@ -95,50 +100,59 @@ pub fn has_place(program: &Module, layout: &Layout, sizes: &Sizes, place: &Place
             ))
 }
 
-fn checks_function(function: &Function, layout: &Layout, sizes: &Sizes) -> bool
+fn checks_function(program: &Module, function: &Function, layout: &Layout, sizes: &Sizes) -> bool
     requires { IsTrue (is_formed layout.now) }
-    ensures { result ≡ function_fits layout.now sizes.now function.now }
+    ensures { result ≡ function_fits program.now layout.now sizes.now function.now }
 {
     for block in function.blocks.as_slice() {
-        if !checks_block(block, layout, sizes) {
+        if !checks_block(program, block, layout, sizes) {
             return false;
         }
     }
     true
 }
 
-fn checks_block(block: &Block, layout: &Layout, sizes: &Sizes) -> bool
+fn checks_block(program: &Module, block: &Block, layout: &Layout, sizes: &Sizes) -> bool
     requires { IsTrue (is_formed layout.now) }
-    ensures { result ≡ block_fits layout.now sizes.now block.now }
+    ensures { result ≡ block_fits program.now layout.now sizes.now block.now }
 {
     for instr in block.instrs.as_slice() {
-        if !checks_op(&instr.op, layout, sizes) {
+        if !checks_op(program, &instr.op, layout, sizes) {
             return false;
         }
     }
     true
 }
 
-fn checks_op(op: &Op, layout: &Layout, sizes: &Sizes) -> bool
+fn checks_op(program: &Module, op: &Op, layout: &Layout, sizes: &Sizes) -> bool
     requires { IsTrue (is_formed layout.now) }
-    ensures { result ≡ op_fits layout.now sizes.now op.now }
+    ensures { result ≡ op_fits program.now layout.now sizes.now op.now }
 {
     match op {
-        Op::Binary(_, w, a, b) => has_width(*w) && (checks_operand(a) && checks_operand(b)),
-        Op::Compare(_, t, a, b) => is_plain(t) && (checks_operand(a) && checks_operand(b)),
+        Op::Binary(_, w, a, b) => has_width(*w)
+            && (checks_operand(program, layout, sizes, a)
+                && checks_operand(program, layout, sizes, b)),
+        Op::Compare(_, t, a, b) => is_plain(t)
+            && (checks_operand(program, layout, sizes, a)
+                && checks_operand(program, layout, sizes, b)),
         Op::Cast(o, t, a, u) => (is_plain(t) && is_plain(u))
-            && (goes(*o, width(layout, t), width(layout, u)) && checks_operand(a)),
-        Op::Freeze(t, a) => is_plain(t) && checks_operand(a),
-        Op::Select(c, t, a, b) => (is_plain(t) && checks_operand(c))
-            && (checks_operand(a) && checks_operand(b)),
+            && (goes(*o, width(layout, t), width(layout, u))
+                && checks_operand(program, layout, sizes, a)),
+        Op::Freeze(t, a) => is_plain(t) && checks_operand(program, layout, sizes, a),
+        Op::Select(c, t, a, b) => (is_plain(t) && checks_operand(program, layout, sizes, c))
+            && (checks_operand(program, layout, sizes, a)
+                && checks_operand(program, layout, sizes, b)),
         Op::Alloca(t, count, align) => checks_type(layout, sizes, t)
-            && (checks_count(count) && checks_align(*align)),
-        Op::Load(_, t, a) => is_plain(t) && checks_operand(a),
-        Op::Store(_, t, v, a) => is_plain(t) && (checks_operand(v) && checks_operand(a)),
+            && (checks_count(program, layout, sizes, count) && checks_align(*align)),
+        Op::Load(_, t, a) => is_plain(t) && checks_operand(program, layout, sizes, a),
+        Op::Store(_, t, v, a) => is_plain(t)
+            && (checks_operand(program, layout, sizes, v)
+                && checks_operand(program, layout, sizes, a)),
         Op::Gep(t, a, indices) => checks_type(layout, sizes, t)
-            && (checks_operand(a) && checks_indices(indices.as_slice())),
-        Op::Call(_, _, args) => checks_args(args.as_slice()),
-        Op::Ret(Some((t, a))) => is_plain(t) && checks_operand(a),
+            && (checks_operand(program, layout, sizes, a)
+                && checks_indices(program, layout, sizes, indices.as_slice())),
+        Op::Call(_, _, args) => checks_args(program, layout, sizes, args.as_slice()),
+        Op::Ret(Some((t, a))) => is_plain(t) && checks_operand(program, layout, sizes, a),
         _ => false,
     }
 }
@@ -190,23 +204,30 @@ fn goes(op: CastOp, from: u8, to: u8) -> bool
     }
 }
 
-fn checks_operand(a: &Operand) -> bool
-    ensures { result ≡ operand_fits a.now }
+fn checks_operand(program: &Module, layout: &Layout, sizes: &Sizes, a: &Operand) -> bool
+    requires { IsTrue (is_formed layout.now) }
+    ensures { result ≡ operand_fits program.now layout.now sizes.now a.now }
 {
     match a {
         Operand::Reg(_) => true,
-        Operand::Const(Const::Address(place)) => place.indices.is_empty(),
-        Operand::Const(Const::AddressAsInt(place)) => place.indices.is_empty(),
+        Operand::Const(Const::Address(place)) => has_place(program, layout, sizes, place),
+        Operand::Const(Const::AddressAsInt(place)) => has_place(program, layout, sizes, place),
         Operand::Const(_) => true,
     }
 }
 
-fn checks_count(count: &Option<(u8, Operand)>) -> bool
-    ensures { result ≡ count_fits count.now }
+fn checks_count(
+    program: &Module,
+    layout: &Layout,
+    sizes: &Sizes,
+    count: &Option<(u8, Operand)>,
+) -> bool
+    requires { IsTrue (is_formed layout.now) }
+    ensures { result ≡ count_fits program.now layout.now sizes.now count.now }
 {
     match count {
         None => true,
-        Some((w, a)) => has_width(*w) && checks_operand(a),
+        Some((w, a)) => has_width(*w) && checks_operand(program, layout, sizes, a),
     }
 }
 
@@ -219,20 +240,27 @@ fn checks_align(align: Option<u32>) -> bool
     }
 }
 
-fn checks_indices(indices: &[(u8, Operand)]) -> bool
-    ensures { result ≡ indices_fit indices.now }
+fn checks_indices(
+    program: &Module,
+    layout: &Layout,
+    sizes: &Sizes,
+    indices: &[(u8, Operand)],
+) -> bool
+    requires { IsTrue (is_formed layout.now) }
+    ensures { result ≡ indices_fit program.now layout.now sizes.now indices.now }
 {
     match indices {
-        [(w, a)] => has_width(*w) && checks_operand(a),
+        [(w, a)] => has_width(*w) && checks_operand(program, layout, sizes, a),
         _ => false,
     }
 }
 
-fn checks_args(args: &[(Ty, Operand)]) -> bool
-    ensures { result ≡ args_fit args.now }
+fn checks_args(program: &Module, layout: &Layout, sizes: &Sizes, args: &[(Ty, Operand)]) -> bool
+    requires { IsTrue (is_formed layout.now) }
+    ensures { result ≡ args_fit program.now layout.now sizes.now args.now }
 {
     for (_, a) in args {
-        if !checks_operand(a) {
+        if !checks_operand(program, layout, sizes, a) {
             return false;
         }
     }
