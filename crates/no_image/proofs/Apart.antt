@@ -48,6 +48,7 @@ zeros_same f at n none = fun_ext (λ x. same x)
   where
     long : length (replicate {A = ℕ} n 0) ≡ n
     long = length-replicate {A = ℕ} n 0
+
     same : (x : ℕ) → written f at (replicate n 0) x ≡ f x
     same x = elim (cases_lt x at) [
       | inl under ↦ outside f at (replicate n 0) x (inl under)

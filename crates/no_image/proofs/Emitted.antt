@@ -106,7 +106,7 @@ module _ (l : Layout) (sizes : List Extent) (t : Ty) (packed : Bool) (ts : List 
   pub end_low : (end : ℕ) → type_fits l sizes t ≡ true → end ≡ (fields_of packed (map (measure_of l sizes) (take k ts))).size → end ≤ size_limit
   end_low end fits e = elim (cases_lt size_limit end) [
     | inl over ↦ absurd (before_fits packed (measure_of l sizes) ts k (sym (ap (λ (m : Measure). m.fits) whole_is) ∙ fits)
-      (inr (subst (λ (n : ℕ). size_limit < n) e over)))
+        (inr (subst (λ (n : ℕ). size_limit < n) e over)))
     | inr within ↦ within
   ]
 
@@ -155,10 +155,11 @@ module _ (p : Program) (t : Ty) where
       let filled : out ++ replicate (base + at - length out) 0 ≡ start ++ padded (offset_of p.layout p.sizes t k) before =
       ap (λ (xs : List ℕ). xs ++ replicate (base + at - length xs) 0) o
       ∙ padded_behind start before (base + at) at (ap (λ (n : ℕ). n + at) b)
-      ∙ ap (λ (n : ℕ). start ++ padded n before) place in
-      (more,
-      n ∙ ap (λ (xs : List ℕ). xs ++ constant_bytes p c u) filled ∙ append_assoc start (padded (offset_of p.layout p.sizes t k) before) (constant_bytes p c u),
-      so_far ∙ next)
+      ∙ ap (λ (n : ℕ). start ++ padded n before) place in (
+        more,
+        n ∙ ap (λ (xs : List ℕ). xs ++ constant_bytes p c u) filled ∙ append_assoc start (padded (offset_of p.layout p.sizes t k) before) (constant_bytes p c u),
+        so_far ∙ next,
+      )
 
   -- no field is left
   pub fields_done : (whole out new start before : List ℕ) (cs : List Const) (k base : ℕ) → whole ≡ left_bytes k before (drop k cs) → out ≡ start ++ before → base ≡ length start

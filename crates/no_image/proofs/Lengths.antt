@@ -62,6 +62,7 @@ behind (t ∷ ts) zero u rest e = (omega arith, sym (head_is t u ts rest e), tai
   where
     head_is : (t u : Ty) (ts rest : List Ty) → t ∷ ts ≡ u ∷ rest → t ≡ u
     head_is t u ts rest e = cc
+
     tail_is : (t u : Ty) (ts rest : List Ty) → t ∷ ts ≡ u ∷ rest → ts ≡ rest
     tail_is t u ts rest e = cc
 behind (t ∷ ts) (suc k) u rest e = let more = behind ts k u rest e in (omega (arith, more.0), more.1, more.2)

@@ -22,10 +22,16 @@ emit-emit_array-requires t c =
     let sizes = c.args.sound.now.sizes in
     let u = c.resolved-in-Array.result.now in
     let is : u ≡ resolved m.types c.args.t.now = c.resolved-in-Array.ensures ∙ ap (λ (n : Module). resolved n.types c.args.t.now) c.module-in-Array.ensures.value in
-    let init = array_init m l sizes c.args.c.now c.in-Array.elements c.args.t.now u is c.requires.init c.in-Array.is in
-    (search (rules, the_lemmas), (c.requires.addresses,
-    (resolved_fit c.module-in-Array.result.now l sizes c.args.t.now u c.module-in-Array.ensures.sound c.resolved-in-Array.ensures c.requires.fits,
-    subst (λ (cs : List Const). elements_fit (out-Ty u) (map (init_fits m l sizes) cs) ≡ true) (sym c.as_slice-in-Array.ensures) init)))
+    let init = array_init m l sizes c.args.c.now c.in-Array.elements c.args.t.now u is c.requires.init c.in-Array.is in (
+      search (rules, the_lemmas),
+      (
+        c.requires.addresses,
+        (
+          resolved_fit c.module-in-Array.result.now l sizes c.args.t.now u c.module-in-Array.ensures.sound c.resolved-in-Array.ensures c.requires.fits,
+          subst (λ (cs : List Const). elements_fit (out-Ty u) (map (init_fits m l sizes) cs) ≡ true) (sym c.as_slice-in-Array.ensures) init,
+        ),
+      ),
+    )
 
 pub emit-emit_struct-requires : goal.emit-emit_struct-requires
 emit-emit_struct-requires t c =
@@ -34,16 +40,29 @@ emit-emit_struct-requires t c =
     let sizes = c.args.sound.now.sizes in
     let u = c.resolved-in-Struct.result.now in
     let is : u ≡ resolved m.types c.args.t.now = c.resolved-in-Struct.ensures ∙ ap (λ (n : Module). resolved n.types c.args.t.now) c.module-in-Struct.ensures.value in
-    let init = struct_init m l sizes c.args.c.now c.in-Struct.fields c.args.t.now u is c.requires.init c.in-Struct.is in
-    (search (rules, the_lemmas), (c.requires.addresses,
-    (resolved_fit c.module-in-Struct.result.now l sizes c.args.t.now u c.module-in-Struct.ensures.sound c.resolved-in-Struct.ensures c.requires.fits,
-    subst (λ (cs : List Const). fields_fit (out-Ty u) (map (init_fits m l sizes) cs) ≡ true) (sym c.as_slice-in-Struct.ensures) init)))
+    let init = struct_init m l sizes c.args.c.now c.in-Struct.fields c.args.t.now u is c.requires.init c.in-Struct.is in (
+      search (rules, the_lemmas),
+      (
+        c.requires.addresses,
+        (
+          resolved_fit c.module-in-Struct.result.now l sizes c.args.t.now u c.module-in-Struct.ensures.sound c.resolved-in-Struct.ensures c.requires.fits,
+          subst (λ (cs : List Const). fields_fit (out-Ty u) (map (init_fits m l sizes) cs) ≡ true) (sym c.as_slice-in-Struct.ensures) init,
+        ),
+      ),
+    )
 
 pub emit_elements-emit-requires : goal.emit_elements-emit-requires
 emit_elements-emit-requires t c =
-    let fit = init_fits c.args.sound.now.«module» c.args.sound.now.layout c.args.sound.now.sizes in
-    (search (rules, the_lemmas), (c.requires.addresses, (c.requires.fits,
-    element_init fit c.args.t.now c.args.elements.now c.loop-element.element-index c.element-item.result c.requires.init c.loop-element-test.true c.element-item.is)))
+    let fit = init_fits c.args.sound.now.«module» c.args.sound.now.layout c.args.sound.now.sizes in (
+      search (rules, the_lemmas),
+      (
+        c.requires.addresses,
+        (
+          c.requires.fits,
+          element_init fit c.args.t.now c.args.elements.now c.loop-element.element-index c.element-item.result c.requires.init c.loop-element-test.true c.element-item.is,
+        ),
+      ),
+    )
 
 pub emit_elements-loop-element-preserved : goal.emit_elements-loop-element-preserved
 emit_elements-loop-element-preserved t c =
@@ -69,12 +88,22 @@ emit_fields-emit_field-requires t c =
     let lt : k < length c.args.types.now = omega (arith, many, c.loop-k-test.true) in
     let wrote = c.loop-k.invariant.wrote in
     let base : c.len-base.result ≡ length c.args.out.now.items = c.len-base.ensures ∙ c.args.out.now.ok.0 in
-    let long : length c.loop-k.out.items ≡ length c.args.out.now.items + length wrote.0 = ap length wrote.1 ∙ length-append c.args.out.now.items wrote.0 in
-    (search (rules, the_lemmas), (c.requires.addresses,
-    (field_fits l sizes c.args.t.now c.args.packed c.args.types.now c.requires.shape k c.index-types-k.result lt c.index-types-k.is c.requires.fits,
-    (field_init (init_fits m l sizes) c.args.types.now c.args.fields.now k c.index-fields-k.result c.index-types-k.result c.requires.init c.loop-k-test.true c.index-fields-k.is c.index-types-k.is,
-    (end_low l sizes c.args.t.now c.args.packed c.args.types.now c.requires.shape k c.index-types-k.result lt c.index-types-k.is c.loop-k.end c.requires.fits c.loop-k.invariant.end,
-    omega (arith, long, base))))))
+    let long : length c.loop-k.out.items ≡ length c.args.out.now.items + length wrote.0 = ap length wrote.1 ∙ length-append c.args.out.now.items wrote.0 in (
+      search (rules, the_lemmas),
+      (
+        c.requires.addresses,
+        (
+          field_fits l sizes c.args.t.now c.args.packed c.args.types.now c.requires.shape k c.index-types-k.result lt c.index-types-k.is c.requires.fits,
+          (
+            field_init (init_fits m l sizes) c.args.types.now c.args.fields.now k c.index-fields-k.result c.index-types-k.result c.requires.init c.loop-k-test.true c.index-fields-k.is c.index-types-k.is,
+            (
+              end_low l sizes c.args.t.now c.args.packed c.args.types.now c.requires.shape k c.index-types-k.result lt c.index-types-k.is c.loop-k.end c.requires.fits c.loop-k.invariant.end,
+              omega (arith, long, base),
+            ),
+          ),
+        ),
+      ),
+    )
 
 pub emit_fields-loop-k-preserved : goal.emit_fields-loop-k-preserved
 emit_fields-loop-k-preserved t c =
