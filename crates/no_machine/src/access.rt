@@ -1,9 +1,10 @@
 ghost use Rattle.std.specs.Prelude.{◌≡◌, ◌≢◌, ◌+◌, ◌*◌, ◌<◌, ◌≤◌, ◌%◌, ◌^◌, ◌∷◌, [], map, true};
+ghost use Rattle.std.specs.List.{list_all};
 ghost use Rattle.no_layout.specs.Sizes.{type_align, type_stride};
 ghost use Rattle.no_semantics.specs.Image.{stated_or};
-ghost use Rattle.no_semantics.specs.Sound.{align_fits, count_fits, indices_fit, is_scalar, is_width, operand_fits, type_fits};
+ghost use Rattle.no_semantics.specs.Sound.{align_fits, count_fits, index_fits, indices_fit, is_scalar, is_width, operand_fits, type_fits};
 ghost use Rattle.no_semantics.specs.Step.{act_alloca, act_gep, act_load, act_store, count_in, lowered};
-ghost use Rattle.no_semantics.specs.Indices.{path_offset};
+ghost use Rattle.no_semantics.specs.Indices.{inner_offset, path_offset};
 ghost use Rattle.no_semantics.specs.Values.{bytes_of_width, extended, index_value, value};
 ghost use Rattle.no_machine.specs.Acted.{Moves};
 ghost use Rattle.no_machine.specs.Held.{IsKept, program_in, state_in};
@@ -14,7 +15,9 @@ use crate::state::{Acted, Core};
 use crate::values::resized;
 use no_ir::{End, Operand, Trap, Ty};
 use no_layout::{Memory, STACK_START};
-use no_semantics::{Sound, bytes_of, narrowed, pointer_width, width_at};
+use no_semantics::{
+    Sound, bytes_of, index_offset, narrowed, part, pointer_width, resolved, width_at, with_first,
+};
 
 /// The stack pointer less so many bytes, down to a multiple of the alignment.
 fn lower(sp: u32, bytes: u64, align: u64) -> Option<u32>
@@ -173,32 +176,54 @@ impl<M: Memory> Core<M> {
     }
 
     /// An index as a number of the pointer's width.
-    fn index(&self, sound: &Sound, w: u8, a: &Operand) -> u64
-        requires width { is_width w ≡ true }
-        requires operand { operand_fits sound.now.«module» sound.now.layout sound.now.sizes a.now ≡ true }
-        ensures { result ≡ extended w sound.now.layout.pointer (value (program_in M.regions sound.now self.now) w self.now.frame.registers a.now) }
+    fn index(&self, sound: &Sound, index: &(u8, Operand)) -> u64
+        requires { index_fits sound.now.«module» sound.now.layout sound.now.sizes index.now ≡ true }
+        ensures { result ≡ index_value (program_in M.regions sound.now self.now) self.now.frame.registers index.now }
     {
-        resized(w, pointer_width(sound), self.value(sound, w, a))
+        resized(
+            index.0,
+            pointer_width(sound),
+            self.value(sound, index.0, &index.1),
+        )
     }
 
-    /// How far one index leads, modulo 2^64.
-    #[tactic(auto, using(crate::proofs::Offsets::one_index))]
-    fn stepped(&self, sound: &Sound, t: &Ty, index: u64) -> u64
-        requires { type_fits sound.now.layout sound.now.sizes t.now ≡ true }
-        ensures { result ≡ path_offset sound.now.layout sound.now.sizes sound.now.«module».types t.now (index ∷ []) % 2 ^ 64 }
+    /// How far the indices after the first lead, modulo 2^64.
+    fn inner(&self, sound: &Sound, base: &Ty, indices: &[(u8, Operand)]) -> u64
+        requires fits { type_fits sound.now.layout sound.now.sizes base.now ≡ true }
+        requires indices { list_all (index_fits sound.now.«module» sound.now.layout sound.now.sizes) indices.now ≡ true }
+        ensures { result ≡ inner_offset sound.now.layout sound.now.sizes sound.now.«module».types base.now (map (index_value (program_in M.regions sound.now self.now) self.now.frame.registers) indices.now) % 2 ^ 64 }
     {
-        index.wrapping_mul(stride_of(sound, t))
+        let program = sound.module();
+        let mut at = base;
+        let mut total: u64 = 0;
+        for index in indices {
+            let t = resolved(program, at);
+            let i = self.index(sound, index);
+            match part(t, i) {
+                None => return total,
+                Some(next) => {
+                    total = total.wrapping_add(index_offset(sound.layout(), sound.sizes(), t, i));
+                    at = next;
+                }
+            }
+        }
+        total
     }
 
     /// How far the indices lead, modulo 2^64.
+    #[tactic(auto, using(no_semantics::proofs::Parts::known_sum, crate::proofs::Offsets::all_fit))]
     fn offset(&self, sound: &Sound, t: &Ty, indices: &[(u8, Operand)]) -> u64
         requires fits { type_fits sound.now.layout sound.now.sizes t.now ≡ true }
-        requires indices { indices_fit sound.now.«module» sound.now.layout sound.now.sizes indices.now ≡ true }
+        requires indices { indices_fit sound.now.«module» sound.now.layout sound.now.sizes t.now indices.now ≡ true }
         ensures { result ≡ path_offset sound.now.layout sound.now.sizes sound.now.«module».types t.now (map (index_value (program_in M.regions sound.now self.now) self.now.frame.registers) indices.now) % 2 ^ 64 }
     {
         match indices {
-            [(w, a)] => self.stepped(sound, t, self.index(sound, *w, a)),
-            _ => 0,
+            [] => 0,
+            [first, others @ ..] => with_first(
+                self.index(sound, first),
+                stride_of(sound, t),
+                self.inner(sound, t, others),
+            ),
         }
     }
 
@@ -215,7 +240,7 @@ impl<M: Memory> Core<M> {
         requires room { self.old.frame.at + 1 < 2 ^ 64 }
         requires fits { type_fits sound.now.layout sound.now.sizes t.now ≡ true }
         requires operand { operand_fits sound.now.«module» sound.now.layout sound.now.sizes a.now ≡ true }
-        requires indices { indices_fit sound.now.«module» sound.now.layout sound.now.sizes indices.now ≡ true }
+        requires indices { indices_fit sound.now.«module» sound.now.layout sound.now.sizes t.now indices.now ≡ true }
         ensures moves { Moves (act_gep (program_in M.regions sound.now self.old) into t.now a.now indices.now (state_in M.byte self.old)) (M.held self.old.mem) result (state_in M.byte self.old) (state_in M.byte self.new) }
         ensures kept { IsKept M.regions M.held self.old self.new }
         ensures enough { result ≢ Acted.NoMemory }

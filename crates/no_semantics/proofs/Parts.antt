@@ -170,11 +170,22 @@ module _ (l : Layout) (sizes : List Extent) (types : List (List ℕ × Ty)) wher
   inner_more at t next i total offset others is found e =
       let part : part_of (resolved types at) i ≡ Some next = ap (λ (u : Ty). part_of u i) (sym is) ∙ found in
       let whole : inner_offset l sizes types at (i ∷ others) ≡ index_offset l sizes t i + inner_offset l sizes types next others =
-      ap (λ (o : Option Ty). index_offset l sizes (resolved types at) i + told_of 0 o (λ u. inner_offset l sizes types u others)) part
+      ap (λ (o : Option Ty). told_of 0 o (λ u. index_offset l sizes (resolved types at) i + inner_offset l sizes types u others)) part
       ∙ ap (λ (u : Ty). index_offset l sizes u i + inner_offset l sizes types next others) (sym is) in
       ap (λ (o : ℕ). ((total + o) % 2 ^ 64 + inner_offset l sizes types next others) % 2 ^ 64) e
       ∙ sum_more total (index_offset l sizes t i) (inner_offset l sizes types next others) (2 ^ 64)
       ∙ ap (λ (k : ℕ). (total + k) % 2 ^ 64) (sym whole)
+
+  -- an index leads nowhere
+  pub inner_none : (at t : Ty) (i total whole : ℕ) (others : List ℕ) → t ≡ resolved types at → part_of t i ≡ None → total < 2 ^ 64
+      → (total + inner_offset l sizes types at (i ∷ others)) % 2 ^ 64 ≡ whole → total ≡ whole
+  inner_none at t i total whole others is found small so_far =
+      let none : inner_offset l sizes types at (i ∷ others) ≡ 0 =
+      ap (λ (o : Option Ty). told_of 0 o (λ u. index_offset l sizes (resolved types at) i + inner_offset l sizes types u others)) (ap (λ (u : Ty). part_of u i) (sym is) ∙ found) in
+      sym (ap (λ (k : ℕ). (total + k) % 2 ^ 64) none ∙ alone total small) ∙ so_far
+    where
+      alone : (total : ℕ) → total < 2 ^ 64 → (total + 0) % 2 ^ 64 ≡ total
+      alone total small = omega arith
 
 -- the indices behind one that leads somewhere lead somewhere
 pub leads_more : (types : List (List ℕ × Ty)) (at t next : Ty) (i : ℕ) (others : List ℕ) → t ≡ resolved types at → part_of t i ≡ Some next

@@ -45,11 +45,11 @@ abbrev pub told_of : {A : Type 0} → A → Option Ty → (Ty → A) → A
 told_of other None tell = other
 told_of other (Some t) tell = tell t
 
--- how far the indices after the first lead, each into what stands where the one before leads
+-- how far the indices after the first lead, each into what stands where the one before leads; one that leads nowhere ends the way
 abbrev pub inner_offset : Layout → List Extent → List (List ℕ × Ty) → Ty → List ℕ → ℕ
 inner_offset l sizes types t [] = 0
 inner_offset l sizes types t (i ∷ others) =
-    index_offset l sizes (resolved types t) i + told_of 0 (part_of (resolved types t) i) (λ u. inner_offset l sizes types u others)
+    told_of 0 (part_of (resolved types t) i) (λ u. index_offset l sizes (resolved types t) i + inner_offset l sizes types u others)
 
 -- the first index steps over whole values of the type; indices are numbers of the pointer's width
 abbrev pub path_offset : Layout → List Extent → List (List ℕ × Ty) → Ty → List ℕ → ℕ

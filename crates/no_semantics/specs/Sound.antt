@@ -1,5 +1,5 @@
 -- Modules of which a machine runs each instruction.
-use Rattle.std.specs.Prelude.{ℕ, ◌+◌, ◌^◌, Bool, true, false, ◌&&◌, ◌||◌, ◌==◌, nat_lt, List, [], ◌∷◌, length, map, Option, Some, None}
+use Rattle.std.specs.Prelude.{ℕ, ◌+◌, ◌^◌, Bool, true, false, ◌&&◌, ◌||◌, ◌==◌, nat_lt, List, [], ◌∷◌, length, map, slice_get, if◌then◌else◌, Option, Some, None}
 use Rattle.std.specs.List.{list_all}
 use Rattle.no_ir.specs.declared.types.Ty.{Ty, out-Ty}
 use Rattle.no_ir.specs.declared.types.Ty.TheOpen.{Ty-F}
@@ -24,7 +24,7 @@ use Rattle.no_layout.specs.Sizes.{measure_of, type_size, type_align}
 use Rattle.no_layout.specs.Text.{is_formed}
 use Rattle.no_layout.specs.declared.extent.Extent.{Extent}
 use Rattle.no_layout.specs.declared.layout.Layout.{Layout}
-use Rattle.no_semantics.specs.Indices.{path_leads}
+use Rattle.no_semantics.specs.Indices.{path_leads, resolved, told_of}
 use Rattle.no_semantics.specs.Values.{width_of}
 
 -- ---- types
@@ -100,10 +100,40 @@ abbrev pub align_fits : Option ℕ → Bool
 align_fits None = true
 align_fits (Some align) = nat_lt 0 align
 
--- one index
-abbrev pub indices_fit : Module → Layout → List Extent → List (ℕ × Operand) → Bool
-indices_fit m l sizes (index ∷ []) = is_width index.0 && operand_fits m l sizes index.1
-indices_fit m l sizes _ = false
+abbrev pub index_fits : Module → Layout → List Extent → ℕ × Operand → Bool
+index_fits m l sizes index = is_width index.0 && operand_fits m l sizes index.1
+
+-- the number of a field is a constant i32
+abbrev pub constant_number : Const → Option ℕ
+constant_number (const.Int n) = Some n
+constant_number _ = None
+
+abbrev pub operand_number : Operand → Option ℕ
+operand_number (operand.Reg r) = None
+operand_number (operand.Const c) = constant_number c
+
+abbrev pub field_number : ℕ × Operand → Option ℕ
+field_number index = if index.0 == 32 then operand_number index.1 else None
+
+-- the type of what an index leads to: any into an array, and that of a field into a struct
+abbrev pub field_of : List Ty → Option ℕ → Option Ty
+field_of fields None = None
+field_of fields (Some i) = if nat_lt i (2 ^ 31) then slice_get fields i else None
+
+abbrev pub known_part : Ty-F Ty → ℕ × Operand → Option Ty
+known_part (Ty-F.Array count element) index = Some element
+known_part (Ty-F.Struct packed fields) index = field_of fields (field_number index)
+known_part _ index = None
+
+-- each index after the first leads somewhere
+abbrev pub inner_fit : Module → Layout → List Extent → Ty → List (ℕ × Operand) → Bool
+inner_fit m l sizes t [] = true
+inner_fit m l sizes t (index ∷ others) =
+    index_fits m l sizes index && told_of false (known_part (out-Ty (resolved m.types t)) index) (λ u. inner_fit m l sizes u others)
+
+abbrev pub indices_fit : Module → Layout → List Extent → Ty → List (ℕ × Operand) → Bool
+indices_fit m l sizes t [] = true
+indices_fit m l sizes t (index ∷ others) = index_fits m l sizes index && inner_fit m l sizes t others
 
 abbrev pub args_fit : Module → Layout → List Extent → List (Ty × Operand) → Bool
 args_fit m l sizes args = list_all (λ arg. operand_fits m l sizes arg.1) args
@@ -117,7 +147,7 @@ op_fits m l sizes (op.Select c t a b) = (is_scalar t && operand_fits m l sizes c
 op_fits m l sizes (op.Alloca t count align) = type_fits l sizes t && (count_fits m l sizes count && align_fits align)
 op_fits m l sizes (op.Load volatile t a) = is_scalar t && operand_fits m l sizes a
 op_fits m l sizes (op.Store volatile t v a) = is_scalar t && (operand_fits m l sizes v && operand_fits m l sizes a)
-op_fits m l sizes (op.Gep t a indices) = type_fits l sizes t && (operand_fits m l sizes a && indices_fit m l sizes indices)
+op_fits m l sizes (op.Gep t a indices) = type_fits l sizes t && (operand_fits m l sizes a && indices_fit m l sizes t indices)
 op_fits m l sizes (op.Call t g args) = args_fit m l sizes args
 op_fits m l sizes (op.Ret (Some x)) = is_scalar x.0 && operand_fits m l sizes x.1
 op_fits m l sizes _ = false

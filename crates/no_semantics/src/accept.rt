@@ -2,9 +2,11 @@ ghost use Rattle.std.specs.Prelude.{◌≡◌, ◌&&◌, IsTrue, true};
 ghost use Rattle.no_layout.specs.Text.{is_formed};
 ghost use Rattle.no_semantics.specs.Values.{width_of};
 ghost use Rattle.std.specs.List.{list_all};
-ghost use Rattle.no_semantics.specs.Sound.{align_fits, args_fit, block_fits, count_fits, entry_holds, function_fits, goes_between, indices_fit, is_scalar, is_sound, is_width, op_fits, operand_fits, place_fits, same_numbers, symbol_fits, table_holds, type_fits};
+ghost use Rattle.std.specs.Option.{option_copied};
+ghost use Rattle.no_ir.specs.declared.types.Ty.{out-Ty};
+ghost use Rattle.no_semantics.specs.Sound.{align_fits, args_fit, block_fits, count_fits, entry_holds, field_number, field_of, function_fits, goes_between, index_fits, indices_fit, inner_fit, known_part, operand_number, is_scalar, is_sound, is_width, op_fits, operand_fits, place_fits, same_numbers, symbol_fits, table_holds, type_fits};
 
-use crate::indices::path_leads;
+use crate::indices::{path_leads, resolved};
 use no_ir::{Block, Bytes, CastOp, Const, Function, Module, Op, Operand, Place, Symbol, Ty};
 use no_layout::{Layout, Sizes};
 
@@ -150,7 +152,7 @@ fn checks_op(program: &Module, op: &Op, layout: &Layout, sizes: &Sizes) -> bool
                 && checks_operand(program, layout, sizes, a)),
         Op::Gep(t, a, indices) => checks_type(layout, sizes, t)
             && (checks_operand(program, layout, sizes, a)
-                && checks_indices(program, layout, sizes, indices.as_slice())),
+                && checks_indices(program, layout, sizes, t, indices.as_slice())),
         Op::Call(_, _, args) => checks_args(program, layout, sizes, args.as_slice()),
         Op::Ret(Some((t, a))) => is_plain(t) && checks_operand(program, layout, sizes, a),
         _ => false,
@@ -244,14 +246,93 @@ fn checks_indices(
     program: &Module,
     layout: &Layout,
     sizes: &Sizes,
+    t: &Ty,
     indices: &[(u8, Operand)],
 ) -> bool
     requires { IsTrue (is_formed layout.now) }
-    ensures { result ≡ indices_fit program.now layout.now sizes.now indices.now }
+    ensures { result ≡ indices_fit program.now layout.now sizes.now t.now indices.now }
 {
     match indices {
-        [(w, a)] => has_width(*w) && checks_operand(program, layout, sizes, a),
-        _ => false,
+        [] => true,
+        [index, others @ ..] => checks_index(program, layout, sizes, index)
+            && checks_inner(program, layout, sizes, t, others),
+    }
+}
+
+fn checks_index(program: &Module, layout: &Layout, sizes: &Sizes, index: &(u8, Operand)) -> bool
+    requires { IsTrue (is_formed layout.now) }
+    ensures { result ≡ index_fits program.now layout.now sizes.now index.now }
+{
+    has_width(index.0) && checks_operand(program, layout, sizes, &index.1)
+}
+
+/// Whether each index after the first leads somewhere.
+fn checks_inner(
+    program: &Module,
+    layout: &Layout,
+    sizes: &Sizes,
+    base: &Ty,
+    indices: &[(u8, Operand)],
+) -> bool
+    requires { IsTrue (is_formed layout.now) }
+    ensures { result ≡ inner_fit program.now layout.now sizes.now base.now indices.now }
+{
+    let mut at = base;
+    for index in indices {
+        if !checks_index(program, layout, sizes, index) {
+            return false;
+        }
+        match known_part(resolved(program, at), index) {
+            None => return false,
+            Some(next) => at = next,
+        }
+    }
+    true
+}
+
+/// The type of what an index leads to, where it is known.
+fn known_part<'a>(t: &'a Ty, index: &(u8, Operand)) -> Option<&'a Ty>
+    ensures { option_copied result ≡ known_part (out-Ty t.now) index.now }
+{
+    match t {
+        Ty::Array(_, element) => Some(element.get()),
+        Ty::Struct(_, fields) => field_of(fields.as_slice(), field_number(index)),
+        _ => None,
+    }
+}
+
+fn field_of(fields: &[Ty], number: Option<u64>) -> Option<&Ty>
+    ensures { option_copied result ≡ field_of fields.now number }
+{
+    match number {
+        None => None,
+        Some(number) => {
+            if number < 0x8000_0000 {
+                fields.get(number as usize)
+            } else {
+                None
+            }
+        }
+    }
+}
+
+/// The number of a field, which is a constant i32.
+fn field_number(index: &(u8, Operand)) -> Option<u64>
+    ensures { result ≡ field_number index.now }
+{
+    if index.0 == 32 {
+        operand_number(&index.1)
+    } else {
+        None
+    }
+}
+
+fn operand_number(a: &Operand) -> Option<u64>
+    ensures { result ≡ operand_number a.now }
+{
+    match a {
+        Operand::Const(Const::Int(number)) => Some(*number),
+        _ => None,
     }
 }
 
