@@ -1,1 +1,5 @@
 pub mod Placed
+pub mod Initial
+pub mod Emitted
+pub mod Lengths
+pub mod Apart

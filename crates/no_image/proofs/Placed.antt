@@ -117,7 +117,7 @@ pub kind_low : (l : Layout) (sizes : List Extent) (gs : List GlobalVar) (b : Boo
 kind_low l sizes gs true k e = constants_low l sizes gs k e
 kind_low l sizes gs false k e = writable_low l sizes gs k e
 
-own_kind : (b : Bool) → same_kind b b ≡ true
+pub own_kind : (b : Bool) → same_kind b b ≡ true
 own_kind true = refl
 own_kind false = refl
 

@@ -2,20 +2,35 @@ ghost use Rattle.std.specs.Prelude.{◌≡◌, ◌<◌, ◌≤◌, ◌^◌, IsTr
 ghost use Rattle.no_layout.specs.Memory.{globals_limit};
 ghost use Rattle.no_layout.specs.Text.{is_formed};
 ghost use Rattle.no_semantics.specs.Image.{end_of, end_with, global_align, place_behind, regions_of, same_kind};
-ghost use Rattle.no_semantics.specs.Sound.{align_fits, is_scalar, type_fits};
-ghost use Rattle.no_image.specs.Fits.{IsEnd, global_fits, globals_fit, image_fits, init_fits};
+ghost use Rattle.no_semantics.specs.Sound.{align_fits, type_fits};
+ghost use Rattle.no_image.specs.Fits.{IsEnd, global_fits, globals_fit, has_image, image_fits, inits_fit};
 
-use no_ir::{Const, GlobalVar, Ty};
+use crate::inits::begins;
+use no_ir::{GlobalVar, Module};
 use no_layout::{CONSTANTS_START, GLOBALS_LIMIT, Layout, Sizes};
 use no_semantics::Sound;
 
-/// Whether an image can be made of a module: its initialisers are integers or zeros, and its globals end at `0x0200_0000` at most.
+/// Whether an image can be made of a module: each initialiser is of its global's type, and the globals end at `0x0200_0000` at most.
 pub fn fits(sound: &Sound) -> bool
-    ensures { result ≡ image_fits sound.now.layout sound.now.sizes sound.now.«module».globals }
+    ensures { result ≡ has_image sound.now.«module» sound.now.layout sound.now.sizes }
 {
     let globals = sound.module().globals.as_slice();
-    are_fit(sound.layout(), sound.sizes(), globals)
-        && ends_fit(sound.layout(), sound.sizes(), globals)
+    (are_fit(sound.layout(), sound.sizes(), globals)
+        && ends_fit(sound.layout(), sound.sizes(), globals))
+        && all_begin(sound.module(), sound.layout(), sound.sizes(), globals)
+}
+
+/// Whether each initialiser is of its global's type.
+fn all_begin(program: &Module, layout: &Layout, sizes: &Sizes, globals: &[GlobalVar]) -> bool
+    requires { IsTrue (is_formed layout.now) }
+    ensures { result ≡ inits_fit program.now layout.now sizes.now globals.now }
+{
+    for global in globals {
+        if !begins(program, layout, sizes, &global.init, &global.ty) {
+            return false;
+        }
+    }
+    true
 }
 
 fn are_fit(layout: &Layout, sizes: &Sizes, globals: &[GlobalVar]) -> bool
@@ -34,7 +49,7 @@ fn is_fit(layout: &Layout, sizes: &Sizes, global: &GlobalVar) -> bool
     requires { IsTrue (is_formed layout.now) }
     ensures { result ≡ global_fits layout.now sizes.now global.now }
 {
-    layout.fits(sizes, &global.ty) && (has_align(global.align) && begins(&global.ty, &global.init))
+    layout.fits(sizes, &global.ty) && has_align(global.align)
 }
 
 fn has_align(align: Option<u32>) -> bool
@@ -43,26 +58,6 @@ fn has_align(align: Option<u32>) -> bool
     match align {
         None => true,
         Some(n) => n > 0,
-    }
-}
-
-fn is_plain(t: &Ty) -> bool
-    ensures { result ≡ is_scalar t.now }
-{
-    match t {
-        Ty::Int(w) => *w == 1 || *w == 8 || *w == 16 || *w == 32 || *w == 64,
-        Ty::Ptr => true,
-        _ => false,
-    }
-}
-
-fn begins(t: &Ty, init: &Const) -> bool
-    ensures { result ≡ init_fits t.now init.now }
-{
-    match init {
-        Const::Zero => true,
-        Const::Int(_) => is_plain(t),
-        _ => false,
     }
 }
 

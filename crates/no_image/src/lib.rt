@@ -1,8 +1,18 @@
-//! Where the constants and globals of an accepted module stand.
+//! The first memory of an accepted module: where its constants and globals stand, and which bytes they begin with.
 #![tactic(auto)]
 
+mod bytes;
+mod emit;
 mod ends;
+mod inits;
+mod loading;
+mod making;
 mod placement;
 
 pub use ends::fits;
+pub use loading::load;
+pub use making::image;
 pub use placement::{addresses, regions};
+
+#[cfg(test)]
+mod tests;

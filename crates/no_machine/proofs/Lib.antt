@@ -1,5 +1,4 @@
 pub mod Accesses
-pub mod Widths
 pub mod Offsets
 pub mod Moved
 pub mod Stepping

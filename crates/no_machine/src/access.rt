@@ -1,30 +1,23 @@
 ghost use Rattle.std.specs.Prelude.{◌≡◌, ◌≢◌, ◌+◌, ◌*◌, ◌<◌, ◌≤◌, ◌%◌, ◌^◌, ◌∷◌, [], map, true};
+ghost use Rattle.std.specs.List.{list_all};
 ghost use Rattle.no_layout.specs.Sizes.{type_align, type_stride};
 ghost use Rattle.no_semantics.specs.Image.{stated_or};
-ghost use Rattle.no_semantics.specs.Sound.{align_fits, count_fits, indices_fit, is_scalar, is_width, operand_fits, type_fits};
+ghost use Rattle.no_semantics.specs.Sound.{align_fits, count_fits, index_fits, indices_fit, is_scalar, is_width, operand_fits, type_fits};
 ghost use Rattle.no_semantics.specs.Step.{act_alloca, act_gep, act_load, act_store, count_in, lowered};
-ghost use Rattle.no_semantics.specs.Values.{bytes_of_width, extended, gep_offset, index_value, value};
+ghost use Rattle.no_semantics.specs.Indices.{inner_offset, path_offset};
+ghost use Rattle.no_semantics.specs.Values.{bytes_of_width, extended, index_value, value};
 ghost use Rattle.no_machine.specs.Acted.{Moves};
 ghost use Rattle.no_machine.specs.Held.{IsKept, program_in, state_in};
 ghost use Rattle.no_layout.specs.Orders.{IsWidth};
 
 use crate::numbers::{Fetched, Put, fetch, put_number};
 use crate::state::{Acted, Core};
-use crate::values::{narrowed, pointer_width, resized, width_at};
+use crate::values::resized;
 use no_ir::{End, Operand, Trap, Ty};
 use no_layout::{Memory, STACK_START};
-use no_semantics::Sound;
-
-/// How many bytes a number of w bits takes in memory.
-#[tactic(auto, using(crate::proofs::Widths::bytes_width, crate::proofs::Widths::bytes_room))]
-fn bytes_of(w: u8) -> usize
-    requires { is_width w ≡ true }
-    ensures bytes { result ≡ bytes_of_width w }
-    ensures width { IsWidth result }
-    ensures room { 2 ^ w ≤ 256 ^ result }
-{
-    if w == 1 { 1 } else { usize::from(w / 8) }
-}
+use no_semantics::{
+    Sound, bytes_of, index_offset, narrowed, part, pointer_width, resolved, width_at, with_first,
+};
 
 /// The stack pointer less so many bytes, down to a multiple of the alignment.
 fn lower(sp: u32, bytes: u64, align: u64) -> Option<u32>
@@ -78,7 +71,7 @@ fn stride_of(sound: &Sound, t: &Ty) -> u64
 impl<M: Memory> Core<M> {
     /// How many values an `alloca` makes room for.
     fn count(&self, sound: &Sound, count: &Option<(u8, Operand)>) -> u64
-        requires { count_fits count.now ≡ true }
+        requires { count_fits sound.now.«module» sound.now.layout sound.now.sizes count.now ≡ true }
         ensures { result ≡ count_in (program_in M.regions sound.now self.now) count.now (state_in M.byte self.now) }
     {
         match count {
@@ -96,7 +89,7 @@ impl<M: Memory> Core<M> {
         align: Option<u32>,
     ) -> Option<u32>
         requires fits { type_fits sound.now.layout sound.now.sizes t.now ≡ true }
-        requires count { count_fits count.now ≡ true }
+        requires count { count_fits sound.now.«module» sound.now.layout sound.now.sizes count.now ≡ true }
         requires align { align_fits align ≡ true }
         ensures { result ≡ lowered self.now.sp (count_in (program_in M.regions sound.now self.now) count.now (state_in M.byte self.now) * type_stride sound.now.layout sound.now.sizes t.now) (stated_or align (type_align sound.now.layout sound.now.sizes t.now)) }
     {
@@ -120,7 +113,7 @@ impl<M: Memory> Core<M> {
     ) -> Acted
         requires room { self.old.frame.at + 1 < 2 ^ 64 }
         requires fits { type_fits sound.now.layout sound.now.sizes t.now ≡ true }
-        requires count { count_fits count.now ≡ true }
+        requires count { count_fits sound.now.«module» sound.now.layout sound.now.sizes count.now ≡ true }
         requires align { align_fits align ≡ true }
         ensures moves { Moves (act_alloca (program_in M.regions sound.now self.old) into t.now count.now align (state_in M.byte self.old)) (M.held self.old.mem) result (state_in M.byte self.old) (state_in M.byte self.new) }
         ensures kept { IsKept M.regions M.held self.old self.new }
@@ -141,7 +134,7 @@ impl<M: Memory> Core<M> {
     pub(crate) fn load(&mut self, sound: &Sound, into: Option<u32>, t: &Ty, a: &Operand) -> Acted
         requires room { self.old.frame.at + 1 < 2 ^ 64 }
         requires scalar { is_scalar t.now ≡ true }
-        requires operand { operand_fits a.now ≡ true }
+        requires operand { operand_fits sound.now.«module» sound.now.layout sound.now.sizes a.now ≡ true }
         ensures moves { Moves (act_load (program_in M.regions sound.now self.old) into t.now a.now (state_in M.byte self.old)) (M.held self.old.mem) result (state_in M.byte self.old) (state_in M.byte self.new) }
         ensures kept { IsKept M.regions M.held self.old self.new }
         ensures enough { result ≢ Acted.NoMemory }
@@ -163,8 +156,8 @@ impl<M: Memory> Core<M> {
     pub(crate) fn store(&mut self, sound: &Sound, t: &Ty, v: &Operand, a: &Operand) -> Acted
         requires room { self.old.frame.at + 1 < 2 ^ 64 }
         requires scalar { is_scalar t.now ≡ true }
-        requires value { operand_fits v.now ≡ true }
-        requires operand { operand_fits a.now ≡ true }
+        requires value { operand_fits sound.now.«module» sound.now.layout sound.now.sizes v.now ≡ true }
+        requires operand { operand_fits sound.now.«module» sound.now.layout sound.now.sizes a.now ≡ true }
         ensures moves { Moves (act_store (program_in M.regions sound.now self.old) t.now v.now a.now (state_in M.byte self.old)) (M.held self.old.mem) result (state_in M.byte self.old) (state_in M.byte self.new) }
         ensures kept { IsKept M.regions M.held self.old self.new }
     {
@@ -183,32 +176,54 @@ impl<M: Memory> Core<M> {
     }
 
     /// An index as a number of the pointer's width.
-    fn index(&self, sound: &Sound, w: u8, a: &Operand) -> u64
-        requires width { is_width w ≡ true }
-        requires operand { operand_fits a.now ≡ true }
-        ensures { result ≡ extended w sound.now.layout.pointer (value (program_in M.regions sound.now self.now) w self.now.frame.registers a.now) }
+    fn index(&self, sound: &Sound, index: &(u8, Operand)) -> u64
+        requires { index_fits sound.now.«module» sound.now.layout sound.now.sizes index.now ≡ true }
+        ensures { result ≡ index_value (program_in M.regions sound.now self.now) self.now.frame.registers index.now }
     {
-        resized(w, pointer_width(sound), self.value(sound, w, a))
+        resized(
+            index.0,
+            pointer_width(sound),
+            self.value(sound, index.0, &index.1),
+        )
     }
 
-    /// How far one index leads, modulo 2^64.
-    #[tactic(auto, using(crate::proofs::Offsets::one_index))]
-    fn stepped(&self, sound: &Sound, t: &Ty, index: u64) -> u64
-        requires { type_fits sound.now.layout sound.now.sizes t.now ≡ true }
-        ensures { result ≡ gep_offset (program_in M.regions sound.now self.now) t.now (index ∷ []) % 2 ^ 64 }
+    /// How far the indices after the first lead, modulo 2^64.
+    fn inner(&self, sound: &Sound, base: &Ty, indices: &[(u8, Operand)]) -> u64
+        requires fits { type_fits sound.now.layout sound.now.sizes base.now ≡ true }
+        requires indices { list_all (index_fits sound.now.«module» sound.now.layout sound.now.sizes) indices.now ≡ true }
+        ensures { result ≡ inner_offset sound.now.layout sound.now.sizes sound.now.«module».types base.now (map (index_value (program_in M.regions sound.now self.now) self.now.frame.registers) indices.now) % 2 ^ 64 }
     {
-        index.wrapping_mul(stride_of(sound, t))
+        let program = sound.module();
+        let mut at = base;
+        let mut total: u64 = 0;
+        for index in indices {
+            let t = resolved(program, at);
+            let i = self.index(sound, index);
+            match part(t, i) {
+                None => return total,
+                Some(next) => {
+                    total = total.wrapping_add(index_offset(sound.layout(), sound.sizes(), t, i));
+                    at = next;
+                }
+            }
+        }
+        total
     }
 
     /// How far the indices lead, modulo 2^64.
+    #[tactic(auto, using(no_semantics::proofs::Parts::known_sum, crate::proofs::Offsets::all_fit))]
     fn offset(&self, sound: &Sound, t: &Ty, indices: &[(u8, Operand)]) -> u64
         requires fits { type_fits sound.now.layout sound.now.sizes t.now ≡ true }
-        requires indices { indices_fit indices.now ≡ true }
-        ensures { result ≡ gep_offset (program_in M.regions sound.now self.now) t.now (map (index_value (program_in M.regions sound.now self.now) self.now.frame.registers) indices.now) % 2 ^ 64 }
+        requires indices { indices_fit sound.now.«module» sound.now.layout sound.now.sizes t.now indices.now ≡ true }
+        ensures { result ≡ path_offset sound.now.layout sound.now.sizes sound.now.«module».types t.now (map (index_value (program_in M.regions sound.now self.now) self.now.frame.registers) indices.now) % 2 ^ 64 }
     {
         match indices {
-            [(w, a)] => self.stepped(sound, t, self.index(sound, *w, a)),
-            _ => 0,
+            [] => 0,
+            [first, others @ ..] => with_first(
+                self.index(sound, first),
+                stride_of(sound, t),
+                self.inner(sound, t, others),
+            ),
         }
     }
 
@@ -224,8 +239,8 @@ impl<M: Memory> Core<M> {
     ) -> Acted
         requires room { self.old.frame.at + 1 < 2 ^ 64 }
         requires fits { type_fits sound.now.layout sound.now.sizes t.now ≡ true }
-        requires operand { operand_fits a.now ≡ true }
-        requires indices { indices_fit indices.now ≡ true }
+        requires operand { operand_fits sound.now.«module» sound.now.layout sound.now.sizes a.now ≡ true }
+        requires indices { indices_fit sound.now.«module» sound.now.layout sound.now.sizes t.now indices.now ≡ true }
         ensures moves { Moves (act_gep (program_in M.regions sound.now self.old) into t.now a.now indices.now (state_in M.byte self.old)) (M.held self.old.mem) result (state_in M.byte self.old) (state_in M.byte self.new) }
         ensures kept { IsKept M.regions M.held self.old self.new }
         ensures enough { result ≢ Acted.NoMemory }

@@ -15,7 +15,7 @@ impl<M: Memory> Core<M> {
     #[tactic(auto, using(crate::proofs::Moved::moves_acts))]
     fn act(&mut self, sound: &Sound, instr: &Instr, out: &mut Vec<u8>) -> Acted
         requires room { self.old.frame.at + 1 < 2 ^ 64 }
-        requires fits { op_fits sound.now.layout sound.now.sizes instr.now.op ≡ true }
+        requires fits { op_fits sound.now.«module» sound.now.layout sound.now.sizes instr.now.op ≡ true }
         ensures acts { Acts (act_op (program_in M.regions sound.now self.old) instr.now.result instr.now.op (state_in M.byte self.old)) (M.held self.old.mem) result (state_in M.byte self.old) (state_in M.byte self.new) out.old.items out.new.items }
         ensures kept { IsKept M.regions M.held self.old self.new }
         ensures enough { result ≡ Acted.NoMemory → OpTakesMemory instr.now.op }

@@ -7,10 +7,9 @@ ghost use Rattle.no_machine.specs.Acted.{Acts};
 ghost use Rattle.no_machine.specs.Held.{IsKept, program_in, state_in};
 
 use crate::state::{Acted, Core};
-use crate::values::width_at;
 use no_ir::{Const, End, Function, Module, Operand, Symbol, Trap, Ty};
 use no_layout::Memory;
-use no_semantics::Sound;
+use no_semantics::{Sound, width_at};
 
 const PUTCHAR: &[u8] = b"putchar";
 
@@ -55,7 +54,7 @@ impl<M: Memory> Core<M> {
         out: &mut Vec<u8>,
     ) -> Acted
         requires room { self.old.frame.at + 1 < 2 ^ 64 }
-        requires operand { operand_fits a.now ≡ true }
+        requires operand { operand_fits sound.now.«module» sound.now.layout sound.now.sizes a.now ≡ true }
         ensures acts { Acts (act_putchar (program_in M.regions sound.now self.old) into a.now (state_in M.byte self.old)) (M.held self.old.mem) result (state_in M.byte self.old) (state_in M.byte self.new) out.old.items out.new.items }
         ensures kept { IsKept M.regions M.held self.old self.new }
     {
@@ -77,7 +76,7 @@ impl<M: Memory> Core<M> {
         out: &mut Vec<u8>,
     ) -> Acted
         requires room { self.old.frame.at + 1 < 2 ^ 64 }
-        requires args { args_fit args.now ≡ true }
+        requires args { args_fit sound.now.«module» sound.now.layout sound.now.sizes args.now ≡ true }
         ensures acts { Acts (act_external (program_in M.regions sound.now self.old) function.now into args.now (state_in M.byte self.old)) (M.held self.old.mem) result (state_in M.byte self.old) (state_in M.byte self.new) out.old.items out.new.items }
         ensures kept { IsKept M.regions M.held self.old self.new }
     {
@@ -98,7 +97,7 @@ impl<M: Memory> Core<M> {
         out: &mut Vec<u8>,
     ) -> Acted
         requires room { self.old.frame.at + 1 < 2 ^ 64 }
-        requires args { args_fit args.now ≡ true }
+        requires args { args_fit sound.now.«module» sound.now.layout sound.now.sizes args.now ≡ true }
         ensures acts { Acts (act_call (program_in M.regions sound.now self.old) into callee.now args.now (state_in M.byte self.old)) (M.held self.old.mem) result (state_in M.byte self.old) (state_in M.byte self.new) out.old.items out.new.items }
         ensures kept { IsKept M.regions M.held self.old self.new }
     {
@@ -112,7 +111,7 @@ impl<M: Memory> Core<M> {
     #[tactic(auto, unfolding(no_semantics::specs::Step::act_return))]
     pub(crate) fn returned(&self, sound: &Sound, t: &Ty, a: &Operand) -> End
         requires scalar { is_scalar t.now ≡ true }
-        requires operand { operand_fits a.now ≡ true }
+        requires operand { operand_fits sound.now.«module» sound.now.layout sound.now.sizes a.now ≡ true }
         ensures { act_return (program_in M.regions sound.now self.now) t.now a.now (state_in M.byte self.now) ≡ Ends result }
     {
         End::Exited((self.value(sound, width_at(sound, t), a) % 256) as u8)

@@ -6,11 +6,10 @@ ghost use Rattle.no_machine.specs.Acted.{Moves};
 ghost use Rattle.no_machine.specs.Held.{IsKept, program_in, state_in};
 
 use crate::state::{Acted, Core};
-use crate::values::width_at;
 use no_eval::{binary, cast, compare};
 use no_ir::{BinOp, CastOp, End, Operand, Pred, Ty};
 use no_layout::Memory;
-use no_semantics::Sound;
+use no_semantics::{Sound, width_at};
 
 impl<M: Memory> Core<M> {
     /// A binary operator.
@@ -27,8 +26,8 @@ impl<M: Memory> Core<M> {
         requires room { self.old.frame.at + 1 < 2 ^ 64 }
         requires some { 0 < w }
         requires most { w ≤ 64 }
-        requires left { operand_fits a.now ≡ true }
-        requires right { operand_fits b.now ≡ true }
+        requires left { operand_fits sound.now.«module» sound.now.layout sound.now.sizes a.now ≡ true }
+        requires right { operand_fits sound.now.«module» sound.now.layout sound.now.sizes b.now ≡ true }
         ensures moves { Moves (act_binary (program_in M.regions sound.now self.old) into o w a.now b.now (state_in M.byte self.old)) (M.held self.old.mem) result (state_in M.byte self.old) (state_in M.byte self.new) }
         ensures kept { IsKept M.regions M.held self.old self.new }
         ensures enough { result ≢ Acted.NoMemory }
@@ -57,8 +56,8 @@ impl<M: Memory> Core<M> {
     ) -> Acted
         requires room { self.old.frame.at + 1 < 2 ^ 64 }
         requires scalar { is_scalar t.now ≡ true }
-        requires left { operand_fits a.now ≡ true }
-        requires right { operand_fits b.now ≡ true }
+        requires left { operand_fits sound.now.«module» sound.now.layout sound.now.sizes a.now ≡ true }
+        requires right { operand_fits sound.now.«module» sound.now.layout sound.now.sizes b.now ≡ true }
         ensures moves { Moves (act_compare (program_in M.regions sound.now self.old) into o t.now a.now b.now (state_in M.byte self.old)) (M.held self.old.mem) result (state_in M.byte self.old) (state_in M.byte self.new) }
         ensures kept { IsKept M.regions M.held self.old self.new }
         ensures enough { result ≢ Acted.NoMemory }
@@ -85,7 +84,7 @@ impl<M: Memory> Core<M> {
         requires from { is_scalar t.now ≡ true }
         requires to { is_scalar u.now ≡ true }
         requires between { goes_between o (width_of sound.now.layout t.now) (width_of sound.now.layout u.now) ≡ true }
-        requires operand { operand_fits a.now ≡ true }
+        requires operand { operand_fits sound.now.«module» sound.now.layout sound.now.sizes a.now ≡ true }
         ensures moves { Moves (act_cast (program_in M.regions sound.now self.old) into o t.now a.now u.now (state_in M.byte self.old)) (M.held self.old.mem) result (state_in M.byte self.old) (state_in M.byte self.new) }
         ensures kept { IsKept M.regions M.held self.old self.new }
         ensures enough { result ≢ Acted.NoMemory }
@@ -102,7 +101,7 @@ impl<M: Memory> Core<M> {
     pub(crate) fn freeze(&mut self, sound: &Sound, into: Option<u32>, t: &Ty, a: &Operand) -> Acted
         requires room { self.old.frame.at + 1 < 2 ^ 64 }
         requires scalar { is_scalar t.now ≡ true }
-        requires operand { operand_fits a.now ≡ true }
+        requires operand { operand_fits sound.now.«module» sound.now.layout sound.now.sizes a.now ≡ true }
         ensures moves { Moves (act_freeze (program_in M.regions sound.now self.old) into t.now a.now (state_in M.byte self.old)) (M.held self.old.mem) result (state_in M.byte self.old) (state_in M.byte self.new) }
         ensures kept { IsKept M.regions M.held self.old self.new }
         ensures enough { result ≢ Acted.NoMemory }
@@ -125,9 +124,9 @@ impl<M: Memory> Core<M> {
     ) -> Acted
         requires room { self.old.frame.at + 1 < 2 ^ 64 }
         requires scalar { is_scalar t.now ≡ true }
-        requires condition { operand_fits c.now ≡ true }
-        requires left { operand_fits a.now ≡ true }
-        requires right { operand_fits b.now ≡ true }
+        requires condition { operand_fits sound.now.«module» sound.now.layout sound.now.sizes c.now ≡ true }
+        requires left { operand_fits sound.now.«module» sound.now.layout sound.now.sizes a.now ≡ true }
+        requires right { operand_fits sound.now.«module» sound.now.layout sound.now.sizes b.now ≡ true }
         ensures moves { Moves (act_select (program_in M.regions sound.now self.old) into c.now t.now a.now b.now (state_in M.byte self.old)) (M.held self.old.mem) result (state_in M.byte self.old) (state_in M.byte self.new) }
         ensures kept { IsKept M.regions M.held self.old self.new }
         ensures enough { result ≢ Acted.NoMemory }

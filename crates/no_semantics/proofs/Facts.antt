@@ -1,8 +1,8 @@
 -- What an accepted module gives the machine.
-use Rattle.std.proofs.Common.{◌≡◌, ℕ, inl, inr, Bool, true, false, ◌&&◌, IsTrue, List, slice_get, get_or, Option, Some, None, refl, ◌∙◌, ap}
+use Rattle.std.proofs.Common.{◌≡◌, ℕ, inl, inr, Bool, true, false, ◌&&◌, ◌||◌, ◌==◌, ◌<◌, ◌≤◌, arith, IsTrue, List, slice_get, get_or, Option, Some, None, refl, ◌∙◌, ap}
 use Rattle.std.specs.Option.{IfSome}
 use Rattle.std.specs.List.{list_all}
-use Rattle.std.proofs.lemmas.Bool.{cases_Bool}
+use Rattle.std.proofs.lemmas.Bool.{cases_Bool, or_cases, eqb-true}
 use Rattle.std.proofs.lemmas.List.Folds.{list_all_at}
 use Rattle.std.proofs.lemmas.Option.{slice_get_within, get_or_from_slice_get}
 use Rattle.no_ir.specs.declared.instruction.Instr.{Instr}
@@ -13,7 +13,7 @@ use Rattle.no_layout.specs.Text.{is_formed}
 use Rattle.no_layout.specs.declared.extent.Extent.{Extent}
 use Rattle.no_layout.specs.declared.layout.Layout.{Layout}
 use Rattle.no_semantics.specs.declared.frame.Frame.{Frame}
-use Rattle.no_semantics.specs.Sound.{is_sound, op_fits, block_fits, function_fits}
+use Rattle.no_semantics.specs.Sound.{is_sound, op_fits, block_fits, function_fits, table_holds}
 use Rattle.no_semantics.specs.State.{instr_at, instr_in, block_at}
 
 pub both : (a b : Bool) → (a && b) ≡ true → (a ≡ true) × (b ≡ true)
@@ -34,24 +34,45 @@ each_at p xs k x all is = elim (cases_Bool (p x)) [
 
 pub layout_formed : (m : Module) (l : Layout) (sizes : List Extent) → is_sound m l sizes ≡ true → IsTrue (is_formed l)
 unfolding is_sound
-layout_formed m l sizes e = true_is (is_formed l) (both (is_formed l) (list_all (function_fits l sizes) m.functions) e).0
+layout_formed m l sizes e = true_is (is_formed l) (both (is_formed l) (table_holds l sizes 0 m.types && list_all (function_fits m l sizes) m.functions) e).0
 
-in_block : (l : Layout) (sizes : List Extent) (b : Block) (k : ℕ) (o : Option Instr) → slice_get b.instrs k ≡ o → block_fits l sizes b ≡ true
-    → IfSome o (λ i. op_fits l sizes i.op ≡ true)
-in_block l sizes b k None is e = tt
-in_block l sizes b k (Some i) is e = each_at (λ (i : Instr). op_fits l sizes i.op) b.instrs k i e is
+-- the table has the numbers of each named type
+pub table_is : (m : Module) (l : Layout) (sizes : List Extent) → is_sound m l sizes ≡ true → table_holds l sizes 0 m.types ≡ true
+unfolding is_sound
+table_is m l sizes e =
+    (both (table_holds l sizes 0 m.types) (list_all (function_fits m l sizes) m.functions) (both (is_formed l) (table_holds l sizes 0 m.types && list_all (function_fits m l sizes) m.functions) e).1).0
 
-in_function : (l : Layout) (sizes : List Extent) (f : Function) (b k : ℕ) (o : Option Block) → slice_get f.blocks b ≡ o → function_fits l sizes f ≡ true
-    → IfSome (instr_in o k) (λ i. op_fits l sizes i.op ≡ true)
-in_function l sizes f b k None is e = tt
-in_function l sizes f b k (Some block) is e = in_block l sizes block k (slice_get block.instrs k) refl (each_at (block_fits l sizes) f.blocks b block e is)
+in_block : (m : Module) (l : Layout) (sizes : List Extent) (b : Block) (k : ℕ) (o : Option Instr) → slice_get b.instrs k ≡ o → block_fits m l sizes b ≡ true
+    → IfSome o (λ i. op_fits m l sizes i.op ≡ true)
+in_block m l sizes b k None is e = tt
+in_block m l sizes b k (Some i) is e = each_at (λ (i : Instr). op_fits m l sizes i.op) b.instrs k i e is
 
-in_module : (m : Module) (l : Layout) (sizes : List Extent) (g b k : ℕ) (o : Option Function) → slice_get m.functions g ≡ o → list_all (function_fits l sizes) m.functions ≡ true
-    → IfSome (instr_in (block_at o b) k) (λ i. op_fits l sizes i.op ≡ true)
+in_function : (m : Module) (l : Layout) (sizes : List Extent) (f : Function) (b k : ℕ) (o : Option Block) → slice_get f.blocks b ≡ o → function_fits m l sizes f ≡ true
+    → IfSome (instr_in o k) (λ i. op_fits m l sizes i.op ≡ true)
+in_function m l sizes f b k None is e = tt
+in_function m l sizes f b k (Some block) is e = in_block m l sizes block k (slice_get block.instrs k) refl (each_at (block_fits m l sizes) f.blocks b block e is)
+
+in_module : (m : Module) (l : Layout) (sizes : List Extent) (g b k : ℕ) (o : Option Function) → slice_get m.functions g ≡ o → list_all (function_fits m l sizes) m.functions ≡ true
+    → IfSome (instr_in (block_at o b) k) (λ i. op_fits m l sizes i.op ≡ true)
 in_module m l sizes g b k None is e = tt
-in_module m l sizes g b k (Some f) is e = in_function l sizes f b k (slice_get f.blocks b) refl (each_at (function_fits l sizes) m.functions g f e is)
+in_module m l sizes g b k (Some f) is e = in_function m l sizes f b k (slice_get f.blocks b) refl (each_at (function_fits m l sizes) m.functions g f e is)
 
-pub instr_fits : (m : Module) (l : Layout) (sizes : List Extent) (at : Frame) → is_sound m l sizes ≡ true → IfSome (instr_at m at) (λ i. op_fits l sizes i.op ≡ true)
+pub instr_fits : (m : Module) (l : Layout) (sizes : List Extent) (at : Frame) → is_sound m l sizes ≡ true → IfSome (instr_at m at) (λ i. op_fits m l sizes i.op ≡ true)
 unfolding is_sound
 instr_fits m l sizes at e =
-    in_module m l sizes at.function at.block at.at (slice_get m.functions at.function) refl (both (is_formed l) (list_all (function_fits l sizes) m.functions) e).1
+    in_module m l sizes at.function at.block at.at (slice_get m.functions at.function) refl
+    (both (table_holds l sizes 0 m.types) (list_all (function_fits m l sizes) m.functions) (both (is_formed l) (table_holds l sizes 0 m.types && list_all (function_fits m l sizes) m.functions) e).1).1
+
+-- ---- the width of a pointer
+
+width_is : (w : ℕ) → (w == 32 || w == 64) ≡ true → (0 < w) × (w ≤ 64)
+width_is w e = elim (or_cases (w == 32) (w == 64) e) [
+  | inl is ↦ (let h : w ≡ 32 = eqb-true w 32 is in (omega (arith, h), omega (arith, h)))
+  | inr is ↦ (let h : w ≡ 64 = eqb-true w 64 is in (omega (arith, h), omega (arith, h)))
+]
+
+pub pointer_some : (l : Layout) → IsTrue (is_formed l) → 0 < l.pointer
+pointer_some l formed = (width_is l.pointer (both (l.pointer == 32 || l.pointer == 64) _ formed).0).0
+
+pub pointer_most : (l : Layout) → IsTrue (is_formed l) → l.pointer ≤ 64
+pointer_most l formed = (width_is l.pointer (both (l.pointer == 32 || l.pointer == 64) _ formed).0).1

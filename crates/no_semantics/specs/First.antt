@@ -13,7 +13,8 @@ use Rattle.no_layout.specs.Orders.{bytes_of}
 use Rattle.no_layout.specs.Sizes.{type_size, type_stride, offset_of}
 use Rattle.no_semantics.specs.Accepted.{Accepted}
 use Rattle.no_semantics.specs.Image.{addresses_of, regions_of}
-use Rattle.no_semantics.specs.Values.{Program, width_of, bytes_of_width, place_address, resolved}
+use Rattle.no_semantics.specs.Values.{Program, width_of, bytes_of_width, place_address}
+use Rattle.no_semantics.specs.Indices.{resolved}
 
 -- the program that an accepted module is, with its image
 abbrev pub program_of : Accepted → Program
@@ -35,7 +36,7 @@ element_step (Ty-F.Array count element) = element
 element_step _ = ty.Int 8
 
 abbrev pub element_of : Program → Ty → Ty
-element_of p t = element_step (out-Ty (resolved p t))
+element_of p t = element_step (out-Ty (resolved p.«module».types t))
 
 abbrev pub field_or : Option Ty → Ty
 field_or None = ty.Int 8
@@ -64,7 +65,7 @@ bytes_step p Const-F.Zero t = replicate (type_size p.layout p.sizes t) 0
 bytes_step p (Const-F.Int n) t = number_bytes p t n
 bytes_step p (Const-F.Str text) t = elements_bytes (type_stride p.layout p.sizes (element_of p t)) (map (λ (b : ℕ). b ∷ []) text)
 bytes_step p (Const-F.Array elements) t = elements_bytes (type_stride p.layout p.sizes (element_of p t)) (map (λ (c : Ty → List ℕ). c (element_of p t)) elements)
-bytes_step p (Const-F.Struct fields) t = fields_bytes p (resolved p t) 0 [] fields
+bytes_step p (Const-F.Struct fields) t = fields_bytes p (resolved p.«module».types t) 0 [] fields
 bytes_step p (Const-F.Address place) t = number_bytes p t (place_address p place)
 bytes_step p (Const-F.AddressAsInt place) t = number_bytes p t (place_address p place)
 bytes_step p (Const-F.IntAsPtr n) t = number_bytes p t n

@@ -1,6 +1,7 @@
 pub mod Lists
 pub mod Accepted
 pub mod Image
+pub mod Indices
 pub mod Sound
 pub mod Values
 pub mod State

@@ -21,7 +21,8 @@ use Rattle.no_layout.specs.Sizes.{type_align, type_stride}
 use Rattle.no_semantics.specs.Image.{stated_or}
 use Rattle.no_semantics.specs.Lists.{is_empty}
 use Rattle.no_semantics.specs.State.{State, assigned, callee, instr_at}
-use Rattle.no_semantics.specs.Values.{Program, width_of, bytes_of_width, gep_offset, value, index_value}
+use Rattle.no_semantics.specs.Values.{Program, width_of, bytes_of_width, value, index_value}
+use Rattle.no_semantics.specs.Indices.{path_offset}
 
 -- what an instruction does: bytes are written and the run goes on, or it ends
 pub data Next : Type 0 where
@@ -122,7 +123,7 @@ act_store p t v a s =
 -- an address and the offsets of the indices, modulo 2 ^ P ("getelementptr Instruction")
 unfoldable pub act_gep : Program → Option ℕ → Ty → Operand → List (ℕ × Operand) → State → Next
 act_gep p into t a indices s =
-    Goes [] (assigned into ((value_in p p.layout.pointer s a + gep_offset p t (map (index_value p s.frame.registers) indices)) % 2 ^ p.layout.pointer) s)
+    Goes [] (assigned into ((value_in p p.layout.pointer s a + path_offset p.layout p.sizes p.«module».types t (map (index_value p s.frame.registers) indices)) % 2 ^ p.layout.pointer) s)
 
 -- ---- calls
 

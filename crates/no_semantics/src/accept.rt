@@ -1,9 +1,13 @@
-ghost use Rattle.std.specs.Prelude.{◌≡◌, IsTrue};
+ghost use Rattle.std.specs.Prelude.{◌≡◌, ◌&&◌, IsTrue, true};
 ghost use Rattle.no_layout.specs.Text.{is_formed};
 ghost use Rattle.no_semantics.specs.Values.{width_of};
-ghost use Rattle.no_semantics.specs.Sound.{align_fits, args_fit, block_fits, count_fits, function_fits, goes_between, indices_fit, is_scalar, is_sound, is_width, op_fits, operand_fits, type_fits};
+ghost use Rattle.std.specs.List.{list_all};
+ghost use Rattle.std.specs.Option.{option_copied};
+ghost use Rattle.no_ir.specs.declared.types.Ty.{out-Ty};
+ghost use Rattle.no_semantics.specs.Sound.{align_fits, args_fit, block_fits, count_fits, entry_holds, field_number, field_of, function_fits, goes_between, index_fits, indices_fit, inner_fit, known_part, operand_number, is_scalar, is_sound, is_width, op_fits, operand_fits, place_fits, same_numbers, symbol_fits, table_holds, type_fits};
 
-use no_ir::{Block, CastOp, Const, Function, Module, Op, Operand, Ty};
+use crate::indices::{path_leads, resolved};
+use no_ir::{Block, Bytes, CastOp, Const, Function, Module, Op, Operand, Place, Symbol, Ty};
 use no_layout::{Layout, Sizes};
 
 /// Whether a machine runs each instruction of a module.
@@ -14,58 +18,143 @@ pub fn check(program: &Module, layout: &Layout, sizes: &Sizes) -> bool
     requires { IsTrue (is_formed layout.now) }
     ensures { result ≡ is_sound program.now layout.now sizes.now }
 {
-    for function in program.functions.as_slice() {
-        if !checks_function(function, layout, sizes) {
+    checks_types(program.types.as_slice(), layout, sizes)
+        && checks_functions(program, program.functions.as_slice(), layout, sizes)
+}
+
+/// Whether the table has the numbers of each named type.
+fn checks_types(types: &[(Bytes, Ty)], layout: &Layout, sizes: &Sizes) -> bool
+    requires { IsTrue (is_formed layout.now) }
+    ensures { result ≡ table_holds layout.now sizes.now 0 types.now }
+{
+    for (k, named) in types.iter().enumerate() {
+        if !checks_named(layout, sizes, k, &named.1) {
             return false;
         }
     }
     true
 }
 
-fn checks_function(function: &Function, layout: &Layout, sizes: &Sizes) -> bool
+/// Whether named type k fits, and the table has its numbers.
+fn checks_named(layout: &Layout, sizes: &Sizes, k: usize, t: &Ty) -> bool
     requires { IsTrue (is_formed layout.now) }
-    ensures { result ≡ function_fits layout.now sizes.now function.now }
+    ensures { result ≡ entry_holds layout.now sizes.now k t.now }
+{
+    checks_type(layout, sizes, t)
+        && match u32::try_from(k) {
+            Ok(number) => has_numbers(layout, sizes, &Ty::Named(number), t),
+            Err(_) => false,
+        }
+}
+
+/// Whether a type fits, and has the numbers of another that does.
+fn has_numbers(layout: &Layout, sizes: &Sizes, name: &Ty, t: &Ty) -> bool
+    requires formed { IsTrue (is_formed layout.now) }
+    requires fits { type_fits layout.now sizes.now t.now ≡ true }
+    ensures { result ≡ type_fits layout.now sizes.now name.now && same_numbers layout.now sizes.now name.now t.now }
+{
+    checks_type(layout, sizes, name)
+        && (layout.size(sizes, name) == layout.size(sizes, t)
+            && layout.align(sizes, name) == layout.align(sizes, t))
+}
+
+fn checks_functions(
+    program: &Module,
+    functions: &[Function],
+    layout: &Layout,
+    sizes: &Sizes,
+) -> bool
+    requires { IsTrue (is_formed layout.now) }
+    ensures { result ≡ list_all (function_fits program.now layout.now sizes.now) functions.now }
+{
+    for function in functions {
+        if !checks_function(program, function, layout, sizes) {
+            return false;
+        }
+    }
+    true
+}
+
+/// Whether the module has a symbol.
+fn has_symbol(program: &Module, symbol: &Symbol) -> bool
+    ensures { result ≡ symbol_fits program.now symbol.now }
+{
+    match symbol {
+        Symbol::Global(k) => (*k as usize) < program.globals.len(),
+        Symbol::Function(k) => (*k as usize) < program.functions.len(),
+        Symbol::Unknown(_) => false,
+    }
+}
+
+/// Whether a place in a constant is one that the module has.
+#[tactic(auto, using(crate::proofs::Facts::pointer_some, crate::proofs::Facts::pointer_most))]
+pub fn has_place(program: &Module, layout: &Layout, sizes: &Sizes, place: &Place) -> bool
+    requires { IsTrue (is_formed layout.now) }
+    ensures { result ≡ place_fits program.now layout.now sizes.now place.now }
+{
+    has_symbol(program, &place.symbol)
+        && (checks_type(layout, sizes, &place.base)
+            && path_leads(
+                program,
+                layout.pointer,
+                &place.base,
+                place.indices.as_slice(),
+            ))
+}
+
+fn checks_function(program: &Module, function: &Function, layout: &Layout, sizes: &Sizes) -> bool
+    requires { IsTrue (is_formed layout.now) }
+    ensures { result ≡ function_fits program.now layout.now sizes.now function.now }
 {
     for block in function.blocks.as_slice() {
-        if !checks_block(block, layout, sizes) {
+        if !checks_block(program, block, layout, sizes) {
             return false;
         }
     }
     true
 }
 
-fn checks_block(block: &Block, layout: &Layout, sizes: &Sizes) -> bool
+fn checks_block(program: &Module, block: &Block, layout: &Layout, sizes: &Sizes) -> bool
     requires { IsTrue (is_formed layout.now) }
-    ensures { result ≡ block_fits layout.now sizes.now block.now }
+    ensures { result ≡ block_fits program.now layout.now sizes.now block.now }
 {
     for instr in block.instrs.as_slice() {
-        if !checks_op(&instr.op, layout, sizes) {
+        if !checks_op(program, &instr.op, layout, sizes) {
             return false;
         }
     }
     true
 }
 
-fn checks_op(op: &Op, layout: &Layout, sizes: &Sizes) -> bool
+fn checks_op(program: &Module, op: &Op, layout: &Layout, sizes: &Sizes) -> bool
     requires { IsTrue (is_formed layout.now) }
-    ensures { result ≡ op_fits layout.now sizes.now op.now }
+    ensures { result ≡ op_fits program.now layout.now sizes.now op.now }
 {
     match op {
-        Op::Binary(_, w, a, b) => has_width(*w) && (checks_operand(a) && checks_operand(b)),
-        Op::Compare(_, t, a, b) => is_plain(t) && (checks_operand(a) && checks_operand(b)),
+        Op::Binary(_, w, a, b) => has_width(*w)
+            && (checks_operand(program, layout, sizes, a)
+                && checks_operand(program, layout, sizes, b)),
+        Op::Compare(_, t, a, b) => is_plain(t)
+            && (checks_operand(program, layout, sizes, a)
+                && checks_operand(program, layout, sizes, b)),
         Op::Cast(o, t, a, u) => (is_plain(t) && is_plain(u))
-            && (goes(*o, width(layout, t), width(layout, u)) && checks_operand(a)),
-        Op::Freeze(t, a) => is_plain(t) && checks_operand(a),
-        Op::Select(c, t, a, b) => (is_plain(t) && checks_operand(c))
-            && (checks_operand(a) && checks_operand(b)),
+            && (goes(*o, width(layout, t), width(layout, u))
+                && checks_operand(program, layout, sizes, a)),
+        Op::Freeze(t, a) => is_plain(t) && checks_operand(program, layout, sizes, a),
+        Op::Select(c, t, a, b) => (is_plain(t) && checks_operand(program, layout, sizes, c))
+            && (checks_operand(program, layout, sizes, a)
+                && checks_operand(program, layout, sizes, b)),
         Op::Alloca(t, count, align) => checks_type(layout, sizes, t)
-            && (checks_count(count) && checks_align(*align)),
-        Op::Load(_, t, a) => is_plain(t) && checks_operand(a),
-        Op::Store(_, t, v, a) => is_plain(t) && (checks_operand(v) && checks_operand(a)),
+            && (checks_count(program, layout, sizes, count) && checks_align(*align)),
+        Op::Load(_, t, a) => is_plain(t) && checks_operand(program, layout, sizes, a),
+        Op::Store(_, t, v, a) => is_plain(t)
+            && (checks_operand(program, layout, sizes, v)
+                && checks_operand(program, layout, sizes, a)),
         Op::Gep(t, a, indices) => checks_type(layout, sizes, t)
-            && (checks_operand(a) && checks_indices(indices.as_slice())),
-        Op::Call(_, _, args) => checks_args(args.as_slice()),
-        Op::Ret(Some((t, a))) => is_plain(t) && checks_operand(a),
+            && (checks_operand(program, layout, sizes, a)
+                && checks_indices(program, layout, sizes, t, indices.as_slice())),
+        Op::Call(_, _, args) => checks_args(program, layout, sizes, args.as_slice()),
+        Op::Ret(Some((t, a))) => is_plain(t) && checks_operand(program, layout, sizes, a),
         _ => false,
     }
 }
@@ -117,23 +206,30 @@ fn goes(op: CastOp, from: u8, to: u8) -> bool
     }
 }
 
-fn checks_operand(a: &Operand) -> bool
-    ensures { result ≡ operand_fits a.now }
+fn checks_operand(program: &Module, layout: &Layout, sizes: &Sizes, a: &Operand) -> bool
+    requires { IsTrue (is_formed layout.now) }
+    ensures { result ≡ operand_fits program.now layout.now sizes.now a.now }
 {
     match a {
         Operand::Reg(_) => true,
-        Operand::Const(Const::Address(place)) => place.indices.is_empty(),
-        Operand::Const(Const::AddressAsInt(place)) => place.indices.is_empty(),
+        Operand::Const(Const::Address(place)) => has_place(program, layout, sizes, place),
+        Operand::Const(Const::AddressAsInt(place)) => has_place(program, layout, sizes, place),
         Operand::Const(_) => true,
     }
 }
 
-fn checks_count(count: &Option<(u8, Operand)>) -> bool
-    ensures { result ≡ count_fits count.now }
+fn checks_count(
+    program: &Module,
+    layout: &Layout,
+    sizes: &Sizes,
+    count: &Option<(u8, Operand)>,
+) -> bool
+    requires { IsTrue (is_formed layout.now) }
+    ensures { result ≡ count_fits program.now layout.now sizes.now count.now }
 {
     match count {
         None => true,
-        Some((w, a)) => has_width(*w) && checks_operand(a),
+        Some((w, a)) => has_width(*w) && checks_operand(program, layout, sizes, a),
     }
 }
 
@@ -146,20 +242,106 @@ fn checks_align(align: Option<u32>) -> bool
     }
 }
 
-fn checks_indices(indices: &[(u8, Operand)]) -> bool
-    ensures { result ≡ indices_fit indices.now }
+fn checks_indices(
+    program: &Module,
+    layout: &Layout,
+    sizes: &Sizes,
+    t: &Ty,
+    indices: &[(u8, Operand)],
+) -> bool
+    requires { IsTrue (is_formed layout.now) }
+    ensures { result ≡ indices_fit program.now layout.now sizes.now t.now indices.now }
 {
     match indices {
-        [(w, a)] => has_width(*w) && checks_operand(a),
-        _ => false,
+        [] => true,
+        [index, others @ ..] => checks_index(program, layout, sizes, index)
+            && checks_inner(program, layout, sizes, t, others),
     }
 }
 
-fn checks_args(args: &[(Ty, Operand)]) -> bool
-    ensures { result ≡ args_fit args.now }
+fn checks_index(program: &Module, layout: &Layout, sizes: &Sizes, index: &(u8, Operand)) -> bool
+    requires { IsTrue (is_formed layout.now) }
+    ensures { result ≡ index_fits program.now layout.now sizes.now index.now }
+{
+    has_width(index.0) && checks_operand(program, layout, sizes, &index.1)
+}
+
+/// Whether each index after the first leads somewhere.
+fn checks_inner(
+    program: &Module,
+    layout: &Layout,
+    sizes: &Sizes,
+    base: &Ty,
+    indices: &[(u8, Operand)],
+) -> bool
+    requires { IsTrue (is_formed layout.now) }
+    ensures { result ≡ inner_fit program.now layout.now sizes.now base.now indices.now }
+{
+    let mut at = base;
+    for index in indices {
+        if !checks_index(program, layout, sizes, index) {
+            return false;
+        }
+        match known_part(resolved(program, at), index) {
+            None => return false,
+            Some(next) => at = next,
+        }
+    }
+    true
+}
+
+/// The type of what an index leads to, where it is known.
+fn known_part<'a>(t: &'a Ty, index: &(u8, Operand)) -> Option<&'a Ty>
+    ensures { option_copied result ≡ known_part (out-Ty t.now) index.now }
+{
+    match t {
+        Ty::Array(_, element) => Some(element.get()),
+        Ty::Struct(_, fields) => field_of(fields.as_slice(), field_number(index)),
+        _ => None,
+    }
+}
+
+fn field_of(fields: &[Ty], number: Option<u64>) -> Option<&Ty>
+    ensures { option_copied result ≡ field_of fields.now number }
+{
+    match number {
+        None => None,
+        Some(number) => {
+            if number < 0x8000_0000 {
+                fields.get(number as usize)
+            } else {
+                None
+            }
+        }
+    }
+}
+
+/// The number of a field, which is a constant i32.
+fn field_number(index: &(u8, Operand)) -> Option<u64>
+    ensures { result ≡ field_number index.now }
+{
+    if index.0 == 32 {
+        operand_number(&index.1)
+    } else {
+        None
+    }
+}
+
+fn operand_number(a: &Operand) -> Option<u64>
+    ensures { result ≡ operand_number a.now }
+{
+    match a {
+        Operand::Const(Const::Int(number)) => Some(*number),
+        _ => None,
+    }
+}
+
+fn checks_args(program: &Module, layout: &Layout, sizes: &Sizes, args: &[(Ty, Operand)]) -> bool
+    requires { IsTrue (is_formed layout.now) }
+    ensures { result ≡ args_fit program.now layout.now sizes.now args.now }
 {
     for (_, a) in args {
-        if !checks_operand(a) {
+        if !checks_operand(program, layout, sizes, a) {
             return false;
         }
     }

@@ -81,7 +81,7 @@ impl Sound {
     /// The instruction at which a frame stands, which a machine runs.
     pub fn instr(&self, frame: &Frame) -> Option<&Instr>
         ensures value { option_copied result ≡ instr_at self.now.«module» frame.now }
-        ensures fits { IfSome (option_copied result) (λ i. op_fits self.now.layout self.now.sizes i.op ≡ true) }
+        ensures fits { IfSome (option_copied result) (λ i. op_fits self.now.«module» self.now.layout self.now.sizes i.op ≡ true) }
         ensures within { OnSome result (frame.now.at + 1 < 2 ^ 64) }
     {
         fetch(&self.inner, frame)

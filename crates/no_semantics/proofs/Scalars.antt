@@ -1,16 +1,13 @@
 -- Widths of the values that instructions work on.
-use Rattle.std.proofs.Common.{◌≡◌, ℕ, ◌+◌, ◌%◌, ◌^◌, ◌<◌, ◌≤◌, ◌⊎◌, inl, inr, Bool, true, false, ◌&&◌, ◌||◌, ◌==◌, nat_le, IsTrue, ℤ, List, [], ◌∷◌, map, refl, ap, arith}
+use Rattle.std.proofs.Common.{◌≡◌, ℕ, ◌^◌, ◌<◌, ◌≤◌, ◌⊎◌, inl, inr, Bool, true, false, ◌&&◌, ◌||◌, ◌==◌, nat_le, IsTrue, refl, arith}
 use Rattle.std.proofs.lemmas.Bool.{eqb-true, leb-true}
 use Rattle.no_ir.specs.declared.types.Ty.{Ty, out-Ty}
 use Rattle.no_ir.specs.declared.types.Ty.TheOpen.{Ty-F}
-use Rattle.no_ir.specs.declared.constant.Place.{Place}
 use Rattle.no_layout.specs.Orders.{IsWidth}
 use Rattle.no_layout.specs.Text.{is_formed}
 use Rattle.no_layout.specs.declared.layout.Layout.{Layout}
-use Rattle.no_semantics.specs.Lists.{is_empty}
-use Rattle.no_semantics.specs.Sound.{is_width, is_scalar, is_scalar_step, is_bare}
-use Rattle.no_semantics.specs.Values.{Program, bytes_of_width, width_of, width_step, gep_offset, place_address, symbol_address}
-use Rattle.no_eval.specs.Numbers.{modulo}
+use Rattle.no_semantics.specs.Sound.{is_width, is_scalar, is_scalar_step}
+use Rattle.no_semantics.specs.Values.{bytes_of_width, width_of, width_step}
 
 or_cases : (a b : Bool) → (a || b) ≡ true → (a ≡ true) ⊎ (b ≡ true)
 or_cases true b e = inl refl
@@ -20,10 +17,10 @@ and_left : (a b : Bool) → (a && b) ≡ true → a ≡ true
 and_left true b e = refl
 and_left false b e = absurd cc
 
-abbrev Known : ℕ → Type 0
+abbrev pub Known : ℕ → Type 0
 Known w = (w ≡ 1) ⊎ ((w ≡ 8) ⊎ ((w ≡ 16) ⊎ ((w ≡ 32) ⊎ (w ≡ 64))))
 
-known : (w : ℕ) → is_width w ≡ true → Known w
+pub known : (w : ℕ) → is_width w ≡ true → Known w
 known w e = elim (or_cases (w == 1) (w == 8 || (w == 16 || (w == 32 || w == 64))) e) [
   | inl is ↦ inl (eqb-true w 1 is)
   | inr e ↦ inr (elim (or_cases (w == 8) (w == 16 || (w == 32 || w == 64)) e) [
@@ -84,13 +81,3 @@ shape_width l (Ty-F.Named k) formed e = absurd cc
 
 pub scalar_width : (l : Layout) (t : Ty) → IsTrue (is_formed l) → is_scalar t ≡ true → is_width (width_of l t) ≡ true
 scalar_width l t formed e = shape_width l (out-Ty t) formed e
-
-no_offset : (p : Program) (t : Ty) (indices : List ℤ) → is_empty indices ≡ true → gep_offset p t (map (modulo p.layout.pointer) indices) ≡ 0
-no_offset p t [] e = refl
-no_offset p t (i ∷ others) e = absurd cc
-
-pub bare_address : (p : Program) (place : Place) → is_bare place ≡ true → place_address p place ≡ symbol_address p place.symbol % 2 ^ p.layout.pointer
-bare_address p place e = rw (no_offset p place.base place.indices e) (ap (λ (n : ℕ). n % 2 ^ p.layout.pointer) (plus_zero (symbol_address p place.symbol)))
-  where
-    plus_zero : (n : ℕ) → n + 0 ≡ n
-    plus_zero n = omega arith
