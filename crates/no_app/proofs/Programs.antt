@@ -10,12 +10,13 @@ use Rattle.no_ir.specs.declared.function.Module.{Module}
 use Rattle.no_ir.specs.declared.function.Role.TheVariants.{Source}
 use Rattle.no_semantics.specs.Accepted.{Accepted}
 use Rattle.no_semantics.specs.Sound.{is_sound}
-use Rattle.no_image.specs.Fits.{image_fits}
+use Rattle.no_image.specs.Beyond.{room_of}
+use Rattle.no_image.specs.Fits.{globals_fit}
 use Rattle.no_app.specs.declared.outcome.ModuleFault.{ModuleFault}
 use Rattle.no_layout.specs.Text.{layout_of}
 use Rattle.no_layout.specs.declared.fault.LayoutFault.{LayoutFault}
 use Rattle.no_app.specs.declared.loading.Refused.{Refused}
-use Rattle.no_app.specs.Programs.{types_fit, with_layout, laid_out, left_out, Loads}
+use Rattle.no_app.specs.Programs.{types_fit, with_layout, with_room, laid_out, left_out, Loads}
 
 -- whether entry k fits, by the sizes of those before it, behind others
 abbrev pub fits_behind : Layout → List Extent → List (List ℕ × Ty) → ℕ → Bool
@@ -50,29 +51,28 @@ types_of_sizes l types sizes are = all_fit l [] types are.fit
 pub types_too_large : (l : Layout) (types : List (List ℕ × Ty)) (k : ℕ) → IsTooLarge l types k → types_fit l [] types ≡ false
 types_too_large l types k is = one_large l [] types k is.within is.large
 
--- what passes the tests is the program
-pub loaded_whole : (m : Module) (l : Layout) (sizes : List Extent) (a : Accepted) → AreSizes l m.types sizes → is_sound m l sizes ≡ true
-    → a ≡ record { «module» = m; layout = l; sizes = sizes; role = Source } → image_fits a.layout a.sizes a.«module».globals ≡ true
-    → laid_out m (Ok l) ≡ Ok a
-loaded_whole m l sizes a are sound is fits =
+-- what passes the tests is judged by its room
+pub sized_judged : (m : Module) (places : List ℕ) (l : Layout) (sizes : List Extent) (a : Accepted) (r : Result Accepted Refused) → AreSizes l m.types sizes → is_sound m l sizes ≡ true
+    → a ≡ record { «module» = m; layout = l; sizes = sizes; role = Source } → globals_fit a.layout a.sizes a.«module».globals ≡ true
+    → Loads r (with_room a places (room_of a.layout a.sizes a.«module».globals)) → Loads r (laid_out m places (Ok l))
+sized_judged m places l sizes a r are sound is fits loads =
     let whole : a ≡ with_layout m l = is ∙ ap (λ (s : List Extent). record { «module» = m; layout = l; sizes = s; role = Source }) are.numbers in
-    chosen (types_fit l [] m.types) (is_sound m l (sizes_of l m.types)) (image_fits l (sizes_of l m.types) m.globals) (with_layout m l)
+    let w : Accepted = with_layout m l in
+    subst (λ (x : Result Accepted ModuleFault). Loads r x)
+        (sym (chosen (types_fit l [] m.types) (is_sound m l (sizes_of l m.types)) (globals_fit l (sizes_of l m.types) m.globals) (with_room w places (room_of l (sizes_of l m.types) m.globals))
         (types_of_sizes l m.types sizes are)
         (subst (λ (s : List Extent). is_sound m l s ≡ true) are.numbers sound)
-        (subst (λ (b : Accepted). image_fits b.layout b.sizes b.«module».globals ≡ true) whole fits)
-    ∙ ap (λ (b : Accepted). okay b) (sym whole)
+        (subst (λ (b : Accepted). globals_fit b.layout b.sizes b.«module».globals ≡ true) whole fits)))
+        (subst (λ (b : Accepted). Loads r (with_room b places (room_of b.layout b.sizes b.«module».globals))) whole loads)
   where
-    okay : Accepted → Result Accepted ModuleFault
-    okay b = Ok b
-
-    chosen : (t s f : Bool) (b : Accepted) → t ≡ true → s ≡ true → f ≡ true → (if t && (s && f) then Ok b else Err left_out) ≡ okay b
-    chosen true true true b et es ef = refl
-    chosen true true false b et es ef = absurd cc
-    chosen true false f b et es ef = absurd cc
-    chosen false s f b et es ef = absurd cc
+    chosen : (t s f : Bool) (x : Result Accepted ModuleFault) → t ≡ true → s ≡ true → f ≡ true → (if t then (if s && f then x else Err (left_out 0)) else Err (left_out 0)) ≡ x
+    chosen true true true x et es ef = refl
+    chosen true true false x et es ef = absurd cc
+    chosen true false f x et es ef = absurd cc
+    chosen false s f x et es ef = absurd cc
 
 -- the layout that the module's string states
-pub layout_read : (m : Module) (l : Layout) (text : List ℕ) (r : Result Accepted Refused) → text ≡ m.layout → Ok l ≡ layout_of text
-    → Loads r (laid_out m (Ok l)) → Loads r (laid_out m (layout_of m.layout))
-layout_read m l text r same is loads =
-    subst (λ (t : List ℕ). Loads r (laid_out m (layout_of t))) same (subst (λ (x : Result Layout LayoutFault). Loads r (laid_out m x)) is loads)
+pub layout_read : (m : Module) (places : List ℕ) (l : Layout) (text : List ℕ) (r : Result Accepted Refused) → text ≡ m.layout → Ok l ≡ layout_of text
+    → Loads r (laid_out m places (Ok l)) → Loads r (laid_out m places (layout_of m.layout))
+layout_read m places l text r same is loads =
+    subst (λ (t : List ℕ). Loads r (laid_out m places (layout_of t))) same (subst (λ (x : Result Layout LayoutFault). Loads r (laid_out m places x)) is loads)

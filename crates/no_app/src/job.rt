@@ -1,6 +1,6 @@
 ghost use Rattle.std.specs.Prelude.{ℕ, List, ◌≡◌, ◌-◌, ◌^◌, ◌≤◌, IfOk, true};
 ghost use Rattle.no_flat.specs.FlatBytes.{byte_of, regions_of};
-ghost use Rattle.no_image.specs.Fits.{image_fits};
+ghost use Rattle.no_image.specs.Fits.{has_image};
 ghost use Rattle.no_ir.specs.declared.function.Role.TheVariants.{Source};
 ghost use Rattle.no_machine.specs.Counted.{counted};
 ghost use Rattle.no_machine.specs.Running.{Does, budget_of, count_of};
@@ -10,7 +10,7 @@ ghost use Rattle.no_app.specs.Jobs.{Counts, IsAtStart, IsRunOf, Works, input_of,
 
 use crate::report::Report;
 use no_flat::FlatMemory;
-use no_image::{image, loaded};
+use no_image::{image, load};
 use no_ir::{End, NoMemory};
 use no_machine::{Machine, StepAnswer, Steps};
 use no_ports::{GaveAll, Sink, Source, give_all};
@@ -65,11 +65,12 @@ fn work<L: Ledger>(
 
 /// A machine at the entry of `main`, over the program's first memory.
 fn booted(alloc: Global, sound: &Sound, budget: u64) -> Result<Machine<FlatMemory>, NoMemory>
-    requires { image_fits sound.now.layout sound.now.sizes sound.now.«module».globals ≡ true }
+    requires source { sound.now.role ≡ Source }
+    requires fits { has_image sound.now.«module» sound.now.layout sound.now.sizes ≡ true }
     ensures { (input : List ℕ) → IfOk result (λ m. IsAtStart sound.now input budget m) }
 {
     let image = image(alloc, sound)?;
-    let memory = loaded(alloc, sound, &image)?;
+    let memory = load(alloc, &image)?;
     Machine::boot(alloc, sound, image.addresses, memory, budget)
 }
 
@@ -102,7 +103,7 @@ pub fn local_job<I: Source, O: Sink, L: Ledger>(
     steps: &mut Steps<L>,
 ) -> JobEnd
     requires budget { budget ≤ 2 ^ 32 }
-    requires fits { image_fits sound.layout sound.sizes sound.«module».globals ≡ true }
+    requires fits { has_image sound.«module» sound.layout sound.sizes ≡ true }
     requires role { sound.role ≡ Source }
     // What the output got is what the run writes, and the job ends as the run does.
     ensures run { IsRunOf result (run sound (input_of (I.left input.old)) budget) (O.held out.old) (O.held out.new) }

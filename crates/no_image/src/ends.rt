@@ -33,7 +33,7 @@ fn all_begin(program: &Module, layout: &Layout, sizes: &Sizes, globals: &[Global
     true
 }
 
-fn are_fit(layout: &Layout, sizes: &Sizes, globals: &[GlobalVar]) -> bool
+pub(crate) fn are_fit(layout: &Layout, sizes: &Sizes, globals: &[GlobalVar]) -> bool
     requires { IsTrue (is_formed layout.now) }
     ensures { result ≡ globals_fit layout.now sizes.now globals.now }
 {
