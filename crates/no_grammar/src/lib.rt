@@ -11,7 +11,7 @@ mod types;
 
 pub use fault::{Flaw, Stop, Stopped};
 pub use lists::closes_list;
-pub use names::{name_of, number_in, unescaped, unescaped_inner};
+pub use names::{first_byte, inner, name_of, number_in, unescaped, unescaped_inner};
 pub use numbers::{count_of, decimal, integer_at};
 pub use scope::Scope;
 pub use step::{fault_at, is_kind, is_sign, is_word, skip_sign, skip_word, spelled, syntax};

@@ -26,7 +26,7 @@ fn hex_value(byte: u8) -> u8
 }
 
 /// The byte that stands first, and how many bytes its spelling has.
-fn first_byte(bytes: &[u8]) -> (u8, usize)
+pub fn first_byte(bytes: &[u8]) -> (u8, usize)
     ensures { result ≡ first_byte bytes.now }
 {
     match bytes {
@@ -57,7 +57,7 @@ pub fn unescaped(alloc: Global, bytes: &[u8]) -> Result<Bytes, NoMemory>
 }
 
 /// The bytes between two quotes.
-fn inner(bytes: &[u8]) -> &[u8]
+pub fn inner(bytes: &[u8]) -> &[u8]
     ensures { result.now ≡ inner bytes.now }
 {
     match bytes {

@@ -1,0 +1,6 @@
+pub mod AttributeLaws
+pub mod BracketLaws
+pub mod EndLaws
+pub mod Fronts
+pub mod ManyLaws
+pub mod Saying

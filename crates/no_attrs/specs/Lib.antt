@@ -1,0 +1,4 @@
+pub mod Attributes
+pub mod Brackets
+pub mod Ending
+pub mod Words

@@ -1,0 +1,2 @@
+mod CounterLaws
+pub mod LocalLaws

@@ -1,0 +1,4 @@
+pub mod Graph
+pub mod Lifted
+pub mod Lifting
+pub mod Queue
