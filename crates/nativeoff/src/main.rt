@@ -8,8 +8,9 @@ mod std_sink;
 mod std_source;
 
 use host_files::HostFiles;
-use no_app::{Outcome, Steps, command, status};
+use no_app::{Outcome, command, status};
 use no_ir::Text;
+use no_machine::Steps;
 use no_ports::{ClosedSpawner, ClosedWire};
 use std::marker::Brand;
 use std::process::ExitCode;

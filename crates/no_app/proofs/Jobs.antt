@@ -1,5 +1,5 @@
 -- A job writes what its run writes.
-use Rattle.std.proofs.Common.{◌≡◌, ℕ, ◌+◌, ◌-◌, ◌≤◌, List, [], ◌++◌, length, take, refl, sym, ap, subst, ◌∙◌, append_assoc, append-nil, add_assoc, add-zero, length-append, Option, Some, None, arith}
+use Rattle.std.proofs.Common.{◌≡◌, ℕ, ◌+◌, ◌-◌, ◌≤◌, List, [], ◌++◌, length, take, refl, sym, ap, subst, ◌∙◌, append_assoc, append-nil, add_assoc, add-zero, length-append, Option, Some, arith}
 use Rattle.std.proofs.lemmas.List.{take-append-le}
 use Rattle.std.proofs.Math.Seq.{take-append-add, take-append_seam}
 use Rattle.no_ports.specs.Meanings.{Rose, Adds, AddsPrefix}
@@ -12,7 +12,7 @@ use Rattle.no_machine.specs.Counted.{Counted, counted}
 use Rattle.no_machine.specs.Running.{Does, count_of, budget_of, end_of}
 use Rattle.no_semantics.specs.Accepted.{Accepted}
 use Rattle.no_semantics.specs.Run.{Ran, ended, following}
-use Rattle.no_app.specs.Jobs.{Flat, IsAtStart, rest, report_alone}
+use Rattle.no_app.specs.Jobs.{Flat, rest, report_alone}
 
 pub following_twice : (xs ys : List ℕ) (m n : ℕ) (r : Ran) → following xs m (following ys n r) ≡ following (xs ++ ys) (m + n) r
 following_twice xs ys m n r = rw (append_assoc xs ys r.output, add_assoc m n r.count) refl

@@ -1,11 +1,11 @@
 -- Sizes of a module's types.
-use Rattle.std.proofs.Common.{◌≡◌, ℕ, zero, suc, ◌+◌, ◌<◌, Bool, true, false, ◌&&◌, List, [], ◌∷◌, length, refl, sym, ap, subst, ◌∙◌, Option, Some, None, Result, Ok, Err, arith}
+use Rattle.std.proofs.Common.{◌≡◌, ℕ, zero, suc, ◌<◌, Bool, true, false, ◌&&◌, List, [], ◌∷◌, length, refl, sym, ap, subst, ◌∙◌, Result, Ok, Err, arith}
 use Rattle.std.specs.Prelude.{take, slice_get, if◌then◌else◌}
 use Rattle.std.specs.List.{fold}
 use Rattle.no_ir.specs.declared.types.Ty.{Ty}
 use Rattle.no_layout.specs.declared.extent.Extent.{Extent}
 use Rattle.no_layout.specs.declared.layout.Layout.{Layout}
-use Rattle.no_layout.specs.Sizes.{AreSizes, IsTooLarge, measure_of, with_type, sizes_of, entry_fits, fits_at}
+use Rattle.no_layout.specs.Sizes.{AreSizes, IsTooLarge, measure_of, with_type, sizes_of, entry_fits}
 use Rattle.no_ir.specs.declared.function.Module.{Module}
 use Rattle.no_ir.specs.declared.function.Role.TheVariants.{Source}
 use Rattle.no_semantics.specs.Accepted.{Accepted}
@@ -27,7 +27,7 @@ pub all_fit : (l : Layout) (before : List Extent) (types : List (List ℕ × Ty)
 all_fit l before [] each = refl
 all_fit l before (named ∷ more) each =
     both (measure_of l before named.1).fits (types_fit l (with_type l before named) more) (each 0 (omega arith))
-        (all_fit l (with_type l before named) more (λ k within. each (suc k) (omega arith)))
+    (all_fit l (with_type l before named) more (λ k within. each (suc k) (omega arith)))
   where
     both : (a b : Bool) → a ≡ true → b ≡ true → (a && b) ≡ true
     both true true e f = refl
@@ -59,11 +59,11 @@ sized_judged m places l sizes a r are sound is fits loads =
     let whole : a ≡ with_layout m l = is ∙ ap (λ (s : List Extent). record { «module» = m; layout = l; sizes = s; role = Source }) are.numbers in
     let w : Accepted = with_layout m l in
     subst (λ (x : Result Accepted ModuleFault). Loads r x)
-        (sym (chosen (types_fit l [] m.types) (is_sound m l (sizes_of l m.types)) (globals_fit l (sizes_of l m.types) m.globals) (with_room w places (room_of l (sizes_of l m.types) m.globals))
-        (types_of_sizes l m.types sizes are)
-        (subst (λ (s : List Extent). is_sound m l s ≡ true) are.numbers sound)
-        (subst (λ (b : Accepted). globals_fit b.layout b.sizes b.«module».globals ≡ true) whole fits)))
-        (subst (λ (b : Accepted). Loads r (with_room b places (room_of b.layout b.sizes b.«module».globals))) whole loads)
+    (sym (chosen (types_fit l [] m.types) (is_sound m l (sizes_of l m.types)) (globals_fit l (sizes_of l m.types) m.globals) (with_room w places (room_of l (sizes_of l m.types) m.globals))
+    (types_of_sizes l m.types sizes are)
+    (subst (λ (s : List Extent). is_sound m l s ≡ true) are.numbers sound)
+    (subst (λ (b : Accepted). globals_fit b.layout b.sizes b.«module».globals ≡ true) whole fits)))
+    (subst (λ (b : Accepted). Loads r (with_room b places (room_of b.layout b.sizes b.«module».globals))) whole loads)
   where
     chosen : (t s f : Bool) (x : Result Accepted ModuleFault) → t ≡ true → s ≡ true → f ≡ true → (if t then (if s && f then x else Err (left_out 0)) else Err (left_out 0)) ≡ x
     chosen true true true x et es ef = refl

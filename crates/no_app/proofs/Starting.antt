@@ -1,5 +1,5 @@
 -- A machine at its entry has the whole run left.
-use Rattle.std.proofs.Common.{◌≡◌, ℕ, ◌-◌, List, refl, sym, ap, ◌∙◌, Option, Some, None, Result, Ok, Err, arith}
+use Rattle.std.proofs.Common.{◌≡◌, ℕ, ◌-◌, List, refl, sym, ap, ◌∙◌, Option, Result, Ok, Err, arith}
 use Rattle.std.specs.Prelude.{IfOk}
 use Rattle.no_ir.specs.declared.ending.End.{End}
 use Rattle.no_ir.specs.declared.memory.NoMemory.{NoMemory}
@@ -10,10 +10,10 @@ use Rattle.no_machine.specs.Running as machine
 use Rattle.no_semantics.specs.Accepted.{Accepted}
 use Rattle.no_semantics.specs.First.{program_of, first_byte}
 use Rattle.no_semantics.specs.Image as image
-use Rattle.no_semantics.specs.Run.{Ran, run, run_from}
+use Rattle.no_semantics.specs.Run.{run, run_from}
 use Rattle.no_semantics.specs.State.{State, start}
 use Rattle.no_semantics.specs.Values.{Program}
-use Rattle.no_app.specs.Jobs.{Flat, IsAtStart, rest}
+use Rattle.no_app.specs.Jobs.{Flat, IsAtStart}
 
 pub run_is : (a : Accepted) (input : List ℕ) (n : ℕ) → run a input n ≡ run_from (program_of a) n (start a.«module» (first_byte a))
 unfolding run

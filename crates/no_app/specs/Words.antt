@@ -1,6 +1,7 @@
 -- The words of the command line: which lists of words ask for a job.
 use Rattle.std.specs.Prelude.{ℕ, Bool, true, false, nat_le, if◌then◌else◌, List, [], ◌∷◌, length, take, drop, Option, Some, None, unwrap_or, codes, bytes_eq}
-use Rattle.no_lines.specs.Reading.{◌>>=◌, number_of}
+use Rattle.no_lines.specs.Pieces.{◌>>=◌}
+use Rattle.no_lines.specs.Values.{number_of}
 
 -- a file, and a budget of instructions
 pub record Asked : Type 0 where

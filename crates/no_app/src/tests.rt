@@ -2,6 +2,7 @@ ghost use Rattle.std.specs.Prelude.{◌≡◌};
 
 use super::*;
 use no_ir::Text;
+use no_machine::Steps;
 use no_ports::{ClosedSpawner, ClosedWire, MemFiles, MemSink, MemSource};
 use std::alloc::Global;
 use std::marker::Brand;
@@ -157,7 +158,7 @@ const LAYOUT: &str = "target datalayout = \"E-p:32:32-i64:64\"\n";
 const SUM: &str =
     "declare i32 @putchar(i32)\ndefine i32 @main() {\n  %a = add i32 60, 5\n  %b = call i32 @putchar(i32 %a)\n  ret i32 %b\n}\n";
 
-const PROGRAMS: [Case; 30] = [
+const PROGRAMS: [Case; 31] = [
     (SUM, "10", "A", "exited 65", 65),
     (SUM, "3", "A", "exited 65", 65),
     (SUM, "2", "A", "unfinished", 110),
@@ -237,105 +238,112 @@ const PROGRAMS: [Case; 30] = [
         "define i32 @main() {\n  ret i32 4294967296\n}\n",
         "1",
         "",
-        "bad module read 2 at 0",
+        "bad module read 2 at 60",
         122,
     ),
     (
         "define i32 @main() {\n  ret i32 -2147483649\n}\n",
         "1",
         "",
-        "bad module read 2 at 0",
+        "bad module read 2 at 60",
         122,
     ),
     (
         "define i32 @main() {\n  ret i32 %a\n}\n",
         "1",
         "",
-        "bad module read 2 at 0",
+        "bad module read 2 at 60",
         122,
     ),
     (
         "define i32 @main() {\n  %a = add i32 %a, 1\n  ret i32 %a\n}\n",
         "1",
         "",
-        "bad module read 2 at 0",
+        "bad module read 2 at 60",
         122,
     ),
     (
         "define i32 @main() {\n  %a = add i32 1, 1\n  %a = add i32 1, 1\n  ret i32 %a\n}\n",
         "9",
         "",
-        "bad module read 2 at 0",
+        "bad module read 2 at 80",
         122,
     ),
     (
         "define i32 @main() {\n  %1 = add i32 1, 1\n  ret i32 0\n}\n",
         "9",
         "",
-        "bad module read 2 at 0",
+        "bad module read 2 at 60",
         122,
     ),
     (
         "define i32 @main() {\n  %a = call i32 @putchar(i32 65)\n  ret i32 0\n}\n",
         "9",
         "",
-        "bad module read 2 at 0",
+        "bad module read 2 at 60",
         122,
     ),
     (
         "define i32 @main() {\n  %a = mul i32 60, 5\n  ret i32 %a\n}\n",
         "9",
         "",
-        "bad module read 2 at 0",
+        "bad module read 2 at 60",
         122,
     ),
     (
         "define i32 @main() {\n  %a = add i32 60,5\n  ret i32 %a\n}\n",
         "9",
         "",
-        "bad module read 2 at 0",
+        "bad module read 2 at 60",
         122,
     ),
     (
         "define i32 @main() {\n  ret i32 0 \n}\n",
         "9",
         "",
-        "bad module read 2 at 0",
+        "bad module read 2 at 60",
         122,
     ),
     (
         "define i32 @main() {\r\n  ret i32 0\r\n}\r\n",
         "9",
         "",
-        "bad module read 2 at 0",
+        "bad module read 2 at 39",
         122,
     ),
     (
         "define i32 @main() {\n  ret i32 0\n",
         "9",
         "",
-        "bad module read 2 at 0",
+        "bad module read 2 at 72",
         122,
     ),
     (
         "define i32 @main() {\n  ret i32 0\n}\n}\n",
         "9",
         "",
-        "bad module read 2 at 0",
+        "bad module read 2 at 74",
         122,
     ),
     (
         "define i32 @main() {\n}\n",
         "9",
         "",
-        "bad module read 2 at 0",
+        "bad module read 2 at 60",
+        122,
+    ),
+    (
+        "declare i32 @putchar(i32)\ndefine i32 @main() {\n  %a = mul i32 60, 5\n  %b = call i32 @putchar(i32 %a)\n  ret i32 %b\n}\n",
+        "9",
+        "",
+        "bad module read 2 at 86",
         122,
     ),
     (
         "declare i32 @putchar(i32)\n",
         "9",
         "",
-        "bad module read 2 at 0",
+        "bad module read 2 at 65",
         122,
     ),
 ];
@@ -345,6 +353,272 @@ fn programs(rt: HostRuntime) -> Result<(), Fail> {
     let alloc = rt.alloc();
     for (body, budget, output, ending, wanted) in &PROGRAMS {
         let text = format!(in alloc; "{LAYOUT}{body}")?;
+        let line = format!(in alloc; "local|m.ll|--steps|{budget}")?;
+        let last = format!(in alloc; "nativeoff: {ending}\n")?;
+        let mut world = make_world(alloc, text.as_str(), &NEVER)?;
+        let words = words(alloc, line.as_str())?;
+        let status = called::<Brand>(alloc, &words, &mut world, Blank::new(2));
+        assert_eq!(rt; status, *wanted, "at {body}");
+        assert_eq!(rt; world.out.held(), output.as_bytes(), "at {body}");
+        assert_eq!(rt; world.err.held(), last.as_bytes(), "at {body}");
+    }
+    Ok(())
+}
+
+/// A layout string, what follows its line, the budget, and then output, last line and status.
+type MemoryCase = (
+    &'static str,
+    &'static str,
+    &'static str,
+    &'static str,
+    &'static str,
+    u8,
+);
+
+/// Writes the last byte of a word, which the byte order decides.
+const LAST_BYTE: &str =
+    "@w = global i32 16909060\ndeclare i32 @putchar(i32)\ndefine i32 @main() {\n  %p = getelementptr i8, ptr @w, i32 3\n  %v = load i8, ptr %p\n  %e = zext i8 %v to i32\n  %c = call i32 @putchar(i32 %e)\n  ret i32 0\n}\n";
+
+/// Keeps the address of a word in it, and gives that address's second byte.
+const OWN_ADDRESS: &str =
+    "@p = global ptr null\ndefine i32 @main() {\n  store ptr @p, ptr @p\n  %q = load ptr, ptr @p\n  %r = getelementptr i8, ptr %q, i32 1\n  %v = load i8, ptr %r\n  %e = zext i8 %v to i32\n  ret i32 %e\n}\n";
+
+const MEMORY: [MemoryCase; 32] = [
+    ("E-p:32:32", LAST_BYTE, "9", "\u{4}", "exited 0", 0),
+    ("e-p:32:32", LAST_BYTE, "9", "\u{1}", "exited 0", 0),
+    (
+        "E-p:32:32",
+        "@w = global i32 16909060\ndefine i32 @main() {\n  %p = getelementptr i8, ptr @w, i32 4\n  %v = load i8, ptr %p\n  ret i32 0\n}\n",
+        "9",
+        "",
+        "trapped 3 BadAddress",
+        103,
+    ),
+    (
+        "E-p:32:32",
+        "define i32 @main() {\n  %a = alloca [1048576 x i8]\n  ret i32 0\n}\n",
+        "9",
+        "",
+        "trapped 7 StackOverflow",
+        107,
+    ),
+    ("E-p:32:32", OWN_ADDRESS, "9", "", "exited 1", 1),
+    ("e-p:32:32", OWN_ADDRESS, "9", "", "exited 0", 0),
+    (
+        "E-p:32:32",
+        "@c = constant i8 65\ndefine i32 @main() {\n  store i8 66, ptr @c\n  ret i32 0\n}\n",
+        "1",
+        "",
+        "trapped 4 ConstantWrite",
+        104,
+    ),
+    (
+        "E-p:32:32",
+        "@c = constant i8 65\ndefine i32 @main() {\n  store i8 66, ptr @c\n  ret i32 0\n}\n",
+        "0",
+        "",
+        "unfinished",
+        110,
+    ),
+    (
+        "E-p:32:32",
+        "@c = constant i8 65\ndefine i32 @main() {\n  %p = getelementptr i8, ptr @c, i32 -1\n  %v = load i8, ptr %p\n  ret i32 0\n}\n",
+        "9",
+        "",
+        "trapped 3 BadAddress",
+        103,
+    ),
+    (
+        "E-p:32:32",
+        "define i32 @main() {\n  %v = load i8, ptr null\n  ret i32 0\n}\n",
+        "9",
+        "",
+        "trapped 3 BadAddress",
+        103,
+    ),
+    (
+        "E-p:32:32",
+        "define i32 @main() {\n  %s = alloca i32\n  store i32 -2, ptr %s\n  %v = load i32, ptr %s\n  ret i32 %v\n}\n",
+        "9",
+        "",
+        "exited 254",
+        254,
+    ),
+    (
+        "e-p:64:64",
+        "define i32 @main() {\n  %s = alloca i64\n  store i64 -1, ptr %s\n  %v = load i8, ptr %s\n  %e = zext i8 %v to i32\n  ret i32 %e\n}\n",
+        "9",
+        "",
+        "exited 255",
+        255,
+    ),
+    (
+        "E-p:32:32",
+        "define i32 @main() {\n  %a = trunc i32 511 to i8\n  %b = zext i8 %a to i32\n  ret i32 %b\n}\n",
+        "9",
+        "",
+        "exited 255",
+        255,
+    ),
+    (
+        "E-p:32:32",
+        "@a = global [4 x i8] zeroinitializer\n@b = global i16 -1\ndefine i32 @main() {\n  %p = getelementptr i8, ptr @a, i32 4\n  %v = load i16, ptr %p\n  %e = zext i16 %v to i32\n  ret i32 %e\n}\n",
+        "9",
+        "",
+        "exited 255",
+        255,
+    ),
+    (
+        "p:32:32",
+        "define i32 @main() {\n  ret i32 0\n}\n",
+        "9",
+        "",
+        "bad module layout 1 at 0",
+        122,
+    ),
+    (
+        "e-p:16:16",
+        "define i32 @main() {\n  ret i32 0\n}\n",
+        "9",
+        "",
+        "bad module layout 2 at 2",
+        122,
+    ),
+    (
+        "e-x",
+        "define i32 @main() {\n  ret i32 0\n}\n",
+        "9",
+        "",
+        "bad module layout 3 at 2",
+        122,
+    ),
+    (
+        "x",
+        "define i32 @main() {\n  %a = mul i32 1, 1\n  ret i32 0\n}\n",
+        "9",
+        "",
+        "bad module read 2 at 45",
+        122,
+    ),
+    (
+        "E-p:32:32",
+        "@a = global [33554432 x i8] zeroinitializer\ndefine i32 @main() {\n  ret i32 0\n}\n",
+        "9",
+        "",
+        "bad module read 2 at 32",
+        122,
+    ),
+    (
+        "E-p:32:32",
+        "@a = global [20000000 x i8] zeroinitializer\n@b = global [20000000 x i8] zeroinitializer\ndefine i32 @main() {\n  ret i32 0\n}\n",
+        "9",
+        "",
+        "bad module read 2 at 76",
+        122,
+    ),
+    (
+        "E-p:32:32",
+        "@a = global [20000000 x i8] zeroinitializer\n@c = constant [33554432 x i8] zeroinitializer\ndefine i32 @main() {\n  ret i32 0\n}\n",
+        "9",
+        "",
+        "bad module read 2 at 76",
+        122,
+    ),
+    (
+        "E-p:32:32",
+        "@a = global [33554433 x i8] zeroinitializer\ndefine i32 @main() {\n  ret i32 0\n}\n",
+        "9",
+        "",
+        "bad module read 2 at 32",
+        122,
+    ),
+    (
+        "E-p:32:32",
+        "@a = global i8 256\ndefine i32 @main() {\n  ret i32 0\n}\n",
+        "9",
+        "",
+        "bad module read 2 at 32",
+        122,
+    ),
+    (
+        "E-p:32:32",
+        "@a = global ptr 5\ndefine i32 @main() {\n  ret i32 0\n}\n",
+        "9",
+        "",
+        "bad module read 2 at 32",
+        122,
+    ),
+    (
+        "E-p:32:32",
+        "@a = global [2 x i8] null\ndefine i32 @main() {\n  ret i32 0\n}\n",
+        "9",
+        "",
+        "bad module read 2 at 32",
+        122,
+    ),
+    (
+        "E-p:32:32",
+        "@a = global i8 0\n@a = global i8 0\ndefine i32 @main() {\n  ret i32 0\n}\n",
+        "9",
+        "",
+        "bad module read 2 at 49",
+        122,
+    ),
+    (
+        "E-p:32:32",
+        "@main = global i8 0\ndefine i32 @main() {\n  ret i32 0\n}\n",
+        "9",
+        "",
+        "bad module read 2 at 52",
+        122,
+    ),
+    (
+        "E-p:32:32",
+        "declare i32 @putchar(i32)\n@putchar = global i8 0\ndefine i32 @main() {\n  ret i32 0\n}\n",
+        "9",
+        "",
+        "bad module read 2 at 58",
+        122,
+    ),
+    (
+        "E-p:32:32",
+        "define i32 @main() {\n  %p = alloca i8\n  %q = add i32 %p, 1\n  ret i32 0\n}\n",
+        "9",
+        "",
+        "bad module read 2 at 70",
+        122,
+    ),
+    (
+        "E-p:32:32",
+        "define i32 @main() {\n  %a = zext i32 5 to i8\n  ret i32 0\n}\n",
+        "9",
+        "",
+        "bad module read 2 at 53",
+        122,
+    ),
+    (
+        "E-p:32:32",
+        "define i32 @main() {\n  store i8 1, ptr @b\n  ret i32 0\n}\n",
+        "9",
+        "",
+        "bad module read 2 at 53",
+        122,
+    ),
+    (
+        "E-p:32:32",
+        "define i32 @main() {\n  %p = getelementptr i16, ptr null, i32 1\n  ret i32 0\n}\n",
+        "9",
+        "",
+        "bad module read 2 at 53",
+        122,
+    ),
+];
+
+#[test]
+fn memory(rt: HostRuntime) -> Result<(), Fail> {
+    let alloc = rt.alloc();
+    for (layout, body, budget, output, ending, wanted) in &MEMORY {
+        let text = format!(in alloc; "target datalayout = \"{layout}\"\n{body}")?;
         let line = format!(in alloc; "local|m.ll|--steps|{budget}")?;
         let last = format!(in alloc; "nativeoff: {ending}\n")?;
         let mut world = make_world(alloc, text.as_str(), &NEVER)?;

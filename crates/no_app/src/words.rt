@@ -1,11 +1,11 @@
 ghost use Rattle.std.specs.Prelude.{◌≡◌, ◌≤◌, ◌^◌, Some, None, IfSome, false};
 ghost use Rattle.std.specs.Option.{option_copied};
-ghost use Rattle.no_lines.specs.Refused.{Finds};
+ghost use Rattle.no_lines.specs.Answers.{Finds};
 ghost use Rattle.no_app.specs.Requests.{request_of, heard_of};
 ghost use Rattle.no_app.specs.Words.{with_budget, budget_of, hear_value, hear_option, hear_word, hear, scanned, asked_of, finished};
 
-use no_lines::number;
 use no_ir::Text;
+use no_lines::number;
 use std::convert::AsStr;
 
 /// What the words ask for: a file, and a budget of instructions.

@@ -1,5 +1,5 @@
 -- A body and the heads before it are read line by line.
-use Rattle.std.proofs.Common.{◌≡◌, ℕ, ◌+◌, ◌≤◌, ◌<◌, Bool, true, false, ◌||◌, List, [], ◌∷◌, ◌++◌, length, refl, sym, ap, subst, ◌∙◌, append_assoc, Option, Some, None, Result, Ok, Err, length-append, bytes_eq, arith}
+use Rattle.std.proofs.Common.{◌≡◌, ℕ, ◌+◌, ◌≤◌, Bool, true, false, ◌||◌, List, [], ◌∷◌, ◌++◌, length, refl, sym, ap, subst, ◌∙◌, append_assoc, Option, Some, None, Result, Ok, Err, length-append, bytes_eq, arith}
 use Rattle.std.specs.Prelude.{codes, position, if◌then◌else◌}
 use Rattle.no_ir.specs.declared.types.Ty.{Ty}
 use Rattle.no_ir.specs.declared.instruction.Op.{Op}
@@ -103,7 +103,7 @@ module _ (at : ℕ) (declared : Bool) (k : Known) (s : Step) where
       let same : assigned_step k a ≡ s = cc in
       subst (λ (t : Step). Grows k t.1) same (record { names = rw length-append (omega arith); globals = refl })
 
-  grows : (o p : Option (List ℕ)) → or_at at (elim o [ | Some text ↦ stored_line k text | None ↦ p >>= assigned_text declared k ]) ≡ Ok s → Grows k s.1
+  grows : (o p : Option (List ℕ)) → or_at at (elim o [ Some text ↦ stored_line k text | None ↦ p >>= assigned_text declared k ]) ≡ Ok s → Grows k s.1
   grows (Some text) p e = stored_grows (store_of k text) e
   grows None None e = absurd cc
   grows None (Some text) e = assigned_grows (assignment_of declared k text) e
@@ -117,7 +117,7 @@ module _ (at : ℕ) (declared : Bool) (k : Known) (s : Step) where
 pub head_grows : (declared declared' : Bool) (g g' : Globals) (at : ℕ) (line : List ℕ) → head_of declared g at line ≡ Ok (Some (declared', g')) → length g'.names ≤ length g.names + 1
 head_grows declared declared' g g' at line e =
     by (bytes_eq line (codes "declare i32 @putchar(i32)")) (declared || is_global g (codes "putchar")) (bytes_eq line (codes "define i32 @main() {")) (is_global g (codes "main"))
-        (global_of declared g.names line) e
+    (global_of declared g.names line) e
   where
     found : Heads → Result (Option Heads) ℕ
     found h = Ok (Some h)

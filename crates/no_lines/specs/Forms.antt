@@ -1,5 +1,5 @@
 -- Lines that are instructions, and lines that define globals (LLVM Language Reference, "Instruction Reference", "Global Variables").
-use Rattle.std.specs.Prelude.{ℕ, Bool, true, false, not, ◌&&◌, nat_lt, if◌then◌else◌, List, [], ◌∷◌, ◌++◌, length, Option, Some, None, option_map, is_none, codes, position, bytes_eq}
+use Rattle.std.specs.Prelude.{ℕ, Bool, true, false, not, ◌&&◌, nat_lt, if◌then◌else◌, List, [], ◌∷◌, Option, Some, None, is_none, codes, position, bytes_eq}
 use Rattle.no_ir.specs.declared.types.Ty.{Ty}
 use Rattle.no_ir.specs.declared.types.Ty.TheVariants as ty
 use Rattle.no_ir.specs.declared.constant.Const.TheVariants as const
@@ -165,5 +165,5 @@ global_of declared names line = do
   constant ← is_constant pieces.0
   if is_free_name declared names parts.0
       then type_before pieces.1 >>= (λ typed. init_of typed.0 typed.1 >>= (λ init.
-          Some (record { name = parts.0; constant = constant; ty = typed.0; init = init; align = None })))
+      Some (record { name = parts.0; constant = constant; ty = typed.0; init = init; align = None })))
       else None

@@ -7,9 +7,7 @@ ghost use Rattle.no_lines.specs.Values.{AreFew};
 use crate::Refusal;
 use crate::pieces::{after, is_fine_name, parts};
 use crate::values::{Known, initial, operand, scalar, type_then, whole_type, width};
-use no_ir::{
-    BinOp, Bytes, CastOp, Const, GlobalVar, List, Names, Op, Operand, Place, Symbol, Ty,
-};
+use no_ir::{BinOp, Bytes, CastOp, Const, GlobalVar, List, Names, Op, Operand, Place, Symbol, Ty};
 use std::alloc::Global;
 
 /// The forms that give a result, each by its word.

@@ -1,4 +1,4 @@
-ghost use Rattle.std.specs.Prelude.{◌≡◌, ◌+◌, ◌<◌, ◌^◌, ◌∷◌, [], length, Some, None, MatchOption, IfSome};
+ghost use Rattle.std.specs.Prelude.{◌≡◌, ◌+◌, ◌<◌, ◌≤◌, ◌^◌, ◌∷◌, [], length, Some, None, MatchOption, IfSome};
 ghost use Rattle.std.specs.List.{list_all};
 ghost use Rattle.std.specs.Char.{is_ascii_alphanumeric};
 ghost use Rattle.no_lines.specs.Answers.{Finds};
@@ -108,8 +108,10 @@ fn are_name_bytes(text: &[u8]) -> bool
 }
 
 /// The number that digits spell, one at least, where it is at most `most`.
+#[tactic(auto, using(crate::proofs::Numbers::decimal_within))]
 pub fn number(most: u64, text: &[u8]) -> Option<u64>
-    ensures { result ≡ number_of most text.now }
+    ensures value { result ≡ number_of most text.now }
+    ensures within { IfSome result (λ n. n ≤ most) }
 {
     match text {
         [] => None,

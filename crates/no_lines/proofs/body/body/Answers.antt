@@ -1,4 +1,4 @@
-use Rattle.std.proofs.Common.{◌≡◌, ◌+◌, ◌≤◌, ◌<◌, length, sym, ap, subst, ◌∙◌, arith}
+use Rattle.std.proofs.Common.{◌<◌, length, sym, subst, ◌∙◌, arith}
 use Rattle.no_lines.specs.Pieces.{lines_at}
 use Rattle.no_lines.specs.declared.values.Known.{Known}
 use Rattle.no_lines.proofs.Bodies.{Grows, body_more, line_grows}

@@ -1,7 +1,6 @@
 use Rattle.std.proofs.Common.{◌≡◌, ◌≤◌, ◌+◌, [], length}
 use Rattle.no_lines.specs.Pieces.{lines_at}
 use Rattle.no_lines.specs.Reading.{body_of, before_body}
-use Rattle.no_lines.specs.Values.{AreFew}
 use Rattle.no_lines.proofs.body.body.Given as goal
 
 abbrev pub invariant-loop-line : goal.invariant-loop-line

@@ -1,4 +1,4 @@
-use Rattle.std.proofs.Common.{◌≡◌, ◌+◌, ◌<◌, length, sym, ◌∙◌, arith}
+use Rattle.std.proofs.Common.{◌<◌, length, sym, ◌∙◌, arith}
 use Rattle.no_lines.proofs.Cutting.{lines_last, lines_after, lines_more, full_of_test, full_of_length, empty_of_length}
 use Rattle.no_lines.proofs.pieces.next_line.Goals as goal
 
@@ -8,8 +8,8 @@ loop-rest-smaller c = let lengths = c.in-Some-empty-default.ensures.lengths in o
 pub returns-in-None-clause-lines : goal.returns-in-None-clause-lines
 returns-in-None-clause-lines c =
     rw (c.last_line.ensures.place, c.last_line.ensures.text, c.last_line.ensures.rest)
-        (sym c.loop-rest.invariant.lines
-        ∙ lines_last c.loop-rest.place c.last_line.result.behind c.loop-rest.rest.now (full_of_test _ c.loop-rest-test.ensures) c.in-None.ensures.value)
+    (sym c.loop-rest.invariant.lines
+    ∙ lines_last c.loop-rest.place c.last_line.result.behind c.loop-rest.rest.now (full_of_test _ c.loop-rest-test.ensures) c.in-None.ensures.value)
 
 pub loop-rest-preserved : goal.loop-rest-preserved
 loop-rest-preserved c =

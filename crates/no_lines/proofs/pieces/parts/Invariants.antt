@@ -1,4 +1,4 @@
-use Rattle.std.proofs.Common.{◌≡◌, ◌≤◌, take, drop}
+use Rattle.std.proofs.Common.{◌≡◌, take, drop}
 use Rattle.no_lines.specs.Pieces.{cut}
 use Rattle.no_lines.proofs.Cutting.{behind}
 use Rattle.no_lines.proofs.pieces.parts.Given as goal

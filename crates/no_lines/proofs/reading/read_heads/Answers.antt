@@ -1,4 +1,4 @@
-use Rattle.std.proofs.Common.{◌≡◌, ◌+◌, ◌≤◌, ◌<◌, length, ◌∙◌, arith}
+use Rattle.std.proofs.Common.{◌<◌, length, ◌∙◌, arith}
 use Rattle.no_lines.specs.Pieces.{lines_at}
 use Rattle.no_lines.specs.Reading.{head_of}
 use Rattle.no_lines.proofs.Bodies.{head_false, head_grows, heads_more}
