@@ -1,7 +1,7 @@
-use crate::{Sound, check, has_place, place_address};
+use crate::check;
 use no_ir::{
     Block, Boxed, Bytes, Const, Function, GlobalVar, Instr, List, Module, NoMemory, Op, Operand,
-    Place, Role, Symbol, Ty,
+    Place, Symbol, Ty,
 };
 use no_layout::Layout;
 use std::alloc::Global;
@@ -96,47 +96,6 @@ fn indices_lead_into_types(rt: HostRuntime) -> Result<(), NoMemory> {
         ),
     ]? {
         assert!(rt; accepted(alloc, indices)? == want);
-    }
-    Ok(())
-}
-
-/// The address of a place, where the module has it; its one global stands at 0x20000.
-fn address(alloc: Global, symbol: u32, indices: &[i64]) -> Result<Option<u64>, NoMemory> {
-    let program = module(alloc, List::from_vec(vec![in alloc; constant(32, 0)]?))?;
-    let place = place(alloc, symbol, indices)?;
-    let Ok(layout) = Layout::read(b"E-p:32:32".as_slice()) else {
-        return Ok(None);
-    };
-    if program.types.len() > 0 {
-        return Ok(None);
-    }
-    let Ok(sizes) = layout.sizes(alloc, &program.types) else {
-        return Ok(None);
-    };
-    if !check(&program, &layout, &sizes) {
-        return Ok(None);
-    }
-    let sound = Sound::of(program, layout, sizes, Role::Source);
-    if !has_place(sound.module(), sound.layout(), sound.sizes(), &place) {
-        return Ok(None);
-    }
-    Ok(Some(place_address(&sound, [0x20000].as_slice(), &place)))
-}
-
-// The struct has 16 bytes, and its array begins at 4.
-#[test]
-fn places_have_addresses(rt: HostRuntime) -> Result<(), NoMemory> {
-    let alloc = rt.alloc();
-    for (symbol, indices, want) in [
-        (0, [].as_slice(), Some(0x20000)),
-        (0, [1].as_slice(), Some(0x20010)),
-        (0, [1, 1, 2].as_slice(), Some(0x2001C)),
-        (0, [-1, 1].as_slice(), Some(0x1FFF4)),
-        (0, [0, 2].as_slice(), None),
-        (0, [0, 0, 0].as_slice(), None),
-        (1, [].as_slice(), None),
-    ] {
-        assert!(rt; address(alloc, symbol, indices)? == want, "{want:?}");
     }
     Ok(())
 }
