@@ -61,5 +61,9 @@ pub fn room(sound: &Sound) -> Result<u64, usize>
 pub fn have_sizes(sound: &Sound) -> bool
     ensures { result ≡ globals_fit sound.now.layout sound.now.sizes sound.now.«module».globals }
 {
-    crate::ends::are_fit(sound.layout(), sound.sizes(), sound.module().globals.as_slice())
+    crate::ends::are_fit(
+        sound.layout(),
+        sound.sizes(),
+        sound.module().globals.as_slice(),
+    )
 }

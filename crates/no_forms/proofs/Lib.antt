@@ -1,0 +1,2 @@
+pub mod FoldedLaws
+pub mod FormLaws

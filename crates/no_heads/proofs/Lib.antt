@@ -1,0 +1,2 @@
+pub mod ClosedLists
+pub mod HeadLaws

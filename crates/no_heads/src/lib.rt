@@ -1,0 +1,9 @@
+//! What stands before the blocks of a function: its result, name, parameters and attributes.
+#![tactic(auto)]
+
+mod heads;
+
+pub use heads::{Head, a_head, heads_are_exact};
+
+#[cfg(test)]
+mod tests;
