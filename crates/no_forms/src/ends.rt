@@ -1,7 +1,7 @@
 ghost use Rattle.std.specs.Prelude.{◌≡◌, ◌∷◌, ◌++◌, [], true, false, codes};
 ghost use Rattle.no_grammar.specs.Rules.{Gives, valued, plain, next_is};
 ghost use Rattle.no_attrs.specs.Attributes.{alignment_of};
-ghost ghost use Rattle.no_grammar.specs.Spelled.{is_sign};
+ghost use Rattle.no_grammar.specs.Spelled.{is_sign};
 ghost use Rattle.no_locals.specs.declared.locals.Locals.{Locals};
 ghost use Rattle.no_forms.specs.Folded.{folded_all};
 ghost use Rattle.no_forms.specs.Ends.{is_comma, an_alignment, names_node, is_node, node_is, marks, an_attachment, end_alignment, end_attachment, end_step, end_mark, finish};
