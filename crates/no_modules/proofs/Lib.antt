@@ -1,0 +1,5 @@
+pub mod FunctionLaws
+pub mod ManyTops
+pub mod ModuleLaws
+pub mod TopForms
+pub mod TopsLaws

@@ -1,0 +1,5 @@
+pub mod Functions
+pub mod Gathered
+pub mod Grouping
+pub mod Modules
+pub mod Tops
