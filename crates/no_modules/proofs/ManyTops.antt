@@ -37,6 +37,9 @@ module _ {S A : Type 0} (test av : Token → Bool) (item : Rule S A) (good : Goo
 
   -- ---- one step
 
+  none_some : (a : A) → None ≡ Some a → ⊥
+  none_some a e = cc
+
   some_item : A × S × List Token → Result (Option A × S × List Token) Stopped
   some_item x = Ok (Some x.0, x.1, x.2)
 
@@ -67,7 +70,7 @@ module _ {S A : Type 0} (test av : Token → Bool) (item : Rule S A) (good : Goo
               by (Some b) = Ok (b, y.1, y.2)
               by None = Ok x
       go true (Err d) n i f = absurd cc
-      go false r n i f = absurd cc
+      go false r n i f = absurd (none_some a (ap (λ (y : Option A × S × List Token). y.0) (from_ok (None, s, tokens) (Some a, t, rest) f)))
 
   -- and one that gives nothing did not
   is_nothing : (s t : S) (tokens rest : List Token) → step.read s tokens ≡ Ok (None, t, rest) → (next_is test tokens ≡ false) × (s ≡ t) × (tokens ≡ rest)
@@ -75,7 +78,7 @@ module _ {S A : Type 0} (test av : Token → Bool) (item : Rule S A) (good : Goo
   is_nothing s t tokens rest e = go (next_is test tokens) (item.read s tokens) refl (sym (step_is s tokens) ∙ e)
     where
       go : (b : Bool) (r : Result (A × S × List Token) Stopped) → next_is test tokens ≡ b → chosen b r s tokens ≡ Ok (None, t, rest) → (next_is test tokens ≡ false) × (s ≡ t) × (tokens ≡ rest)
-      go true (Ok x) n f = absurd cc
+      go true (Ok x) n f = absurd (none_some x.0 (sym (ap (λ (y : Option A × S × List Token). y.0) (from_ok (Some x.0, x.1, x.2) (None, t, rest) f))))
       go true (Err d) n f = absurd cc
       go false r n f = let same = from_ok (None, s, tokens) (None, t, rest) f in (n, ap (λ (y : Option A × S × List Token). y.1) same, ap (λ (y : Option A × S × List Token). y.2) same)
 
@@ -121,6 +124,9 @@ module _ {S A : Type 0} (test av : Token → Bool) (item : Rule S A) (good : Goo
 
   -- ---- the laws
 
+  one_item : (s t : S) (a : A) (used : List Token) → next_is test used ≡ true → item.means s used a t → step.means s used (Some a) t
+  one_item s t a used n m = inl (n, record { front = used; back = []; first = a; between = t; parts = sym (append-nil used); in_front = m; in_back = (refl, refl, refl) })
+
   list_found : (n : ℕ) (s : S) (tokens : List Token) (x : List A × S × List Token) → repeat_read step n s tokens ≡ Ok x → Found (repeat step) s tokens x
   unfolding repeat_read
   list_found zero s tokens x e = absurd cc
@@ -141,9 +147,6 @@ module _ {S A : Type 0} (test av : Token → Bool) (item : Rule S A) (good : Goo
             parts = f.parts ∙ ap (λ (l : List Token). f.used ++ l) b.parts ∙ sym (append_assoc f.used b.used r.0.2);
             meant = record { front = f.used; back = b.used; between = t; parts = refl; item = one_item s t a f.used (same_head s t a f.used tokens us f.parts f.meant ∙ i.0) f.meant; others = b.meant };
           })
-
-      one_item : (s t : S) (a : A) (used : List Token) → next_is test used ≡ true → item.means s used a t → step.means s used (Some a) t
-      one_item s t a used n m = inl (n, record { front = used; back = []; first = a; between = t; parts = sym (append-nil used); in_front = m; in_back = (refl, (refl, refl)) })
 
   from_some : (a b : A) → Some a ≡ Some b → a ≡ b
   from_some a b e = cc
@@ -199,7 +202,7 @@ module _ {S A : Type 0} (test av : Token → Bool) (item : Rule S A) (good : Goo
       let more : repeat_all step m.between (m.back ++ rest) ≡ Ok (all, t, rest) = list_only m.between t all m.back rest m.others out in
       let first : step.read s (m.front ++ (m.back ++ rest)) ≡ Ok (Some a, m.between, m.back ++ rest) =
       reads_item s m.between (m.front ++ (m.back ++ rest)) (m.back ++ rest) a (begun s m.between a m.front (m.back ++ rest) i.1 i.0)
-          (good.only s m.between m.front (m.back ++ rest) a i.1 (item_avoids all m.between t m.back rest m.others out)) in
+      (good.only s m.between m.front (m.back ++ rest) a i.1 (item_avoids all m.between t m.back rest m.others out)) in
       rw (m.parts, append_assoc, list_is s (m.front ++ (m.back ++ rest)), first, more) refl
 
   pub list_good : Good list_avoids (items_where test item)

@@ -29,6 +29,19 @@ latest found (Some n) = Some n
 abbrev pub joined : Settings → Settings → Settings
 joined s g = record { bound = s.bound || g.bound; address = latest s.address g.address }
 
+-- a function with what its attributes set
+abbrev pub set_function : Settings → Written → Function
+set_function s w = record {
+  name = w.head.name;
+  result = w.head.result;
+  params = w.head.params;
+  bound = s.bound;
+  device_address = s.address;
+  registers = w.names.registers;
+  labels = w.names.labels;
+  blocks = w.blocks;
+}
+
 module _ (text : List ℕ) (groups : List ℕ → Settings) where
   -- one attribute of a function, where groups are followed
   abbrev pub with_mark : Settings → Mark → Settings
@@ -41,18 +54,6 @@ module _ (text : List ℕ) (groups : List ℕ → Settings) where
   with_marks s (m ∷ marks) = with_marks (with_mark s m) marks
 
   -- ---- the module
-
-  abbrev pub set_function : Settings → Written → Function
-  set_function s w = record {
-    name = w.head.name;
-    result = w.head.result;
-    params = w.head.params;
-    bound = s.bound;
-    device_address = s.address;
-    registers = w.names.registers;
-    labels = w.names.labels;
-    blocks = w.blocks;
-  }
 
   abbrev pub function_of : Written → Function
   function_of w = set_function (with_marks nothing_set w.head.marks) w

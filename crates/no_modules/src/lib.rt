@@ -10,4 +10,3 @@ pub use functions::{Written, a_function};
 pub use groups::Settings;
 pub use modules::{a_module, modules_are_exact};
 pub use tops::Top;
-

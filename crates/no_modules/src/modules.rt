@@ -59,7 +59,8 @@ fn add_top(text: &[u8], groups: &Groups, top: Top, into: &mut Module) -> Result<
             let function = function_of(text, groups, written)?;
             into.functions.push(function)?;
         }
-        _ => {}
+        Top::Group(_group, _marks) => {}
+        Top::Nothing => {}
     }
     Ok(())
 }

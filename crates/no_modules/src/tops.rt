@@ -1,4 +1,4 @@
-ghost use Rattle.std.specs.Prelude.{◌≡◌, Bool, false};
+ghost use Rattle.std.specs.Prelude.{◌≡◌, ◌∷◌, ◌++◌, [], Bool, false, OnOk};
 ghost use Rattle.no_grammar.specs.Rules.{Gives, plain, next_is};
 ghost use Rattle.no_grammar.specs.Scope.{seen};
 ghost use Rattle.no_grammar.specs.Repeated.{repeat_all};
@@ -8,7 +8,7 @@ use crate::functions::{Written, a_function};
 use no_attrs::Mark;
 use no_globals::a_global;
 use no_grammar::{Scope, Stop, is_kind, spelled, syntax};
-use no_ir::{Bytes, GlobalVar, List, Role};
+use no_ir::{Bytes, GlobalVar, List, NoMemory, Role};
 use no_lex::{Token, TokenKind};
 use no_tops::{a_declaration, a_group, a_node, a_source, a_target};
 use std::alloc::Global;
@@ -242,7 +242,18 @@ fn more_tops<'b>(
     }
 }
 
+/// One form more.
+fn keep(all: &mut Vec<Top>, top: Top) -> Result<(), NoMemory>
+    ensures { OnOk result (all.new.items ≡ all.old.items ++ top ∷ []) }
+{
+    match all.push(top) {
+        Ok(()) => Ok(()),
+        Err(_) => Err(NoMemory),
+    }
+}
+
 /// All forms, whether a layout was stated, and the tokens from the first on that begins none.
+#[tactic(auto, using(crate::proofs::TopsLaws::tops_begin))]
 pub(crate) fn tops<'b>(
     alloc: Global,
     scope: &Scope,
@@ -259,9 +270,7 @@ pub(crate) fn tops<'b>(
         match top {
             None => return Ok((all, now, after)),
             Some(top) => {
-                if all.push(top).is_err() {
-                    return Err(Stop::NoMemory);
-                }
+                keep(&mut all, top)?;
                 stated = now;
                 rest = after;
             }
