@@ -3,3 +3,4 @@ pub mod ManyTops
 pub mod ModuleLaws
 pub mod TopForms
 pub mod TopsLaws
+pub mod WrittenLaws

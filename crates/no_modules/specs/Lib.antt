@@ -3,3 +3,4 @@ pub mod Gathered
 pub mod Grouping
 pub mod Modules
 pub mod Tops
+pub mod WrittenOut
