@@ -1,4 +1,4 @@
-; ModuleID = '/tmp/tmp.SBDYUTxhWO/raw.ll'
+; ModuleID = '<stdin>'
 source_filename = "strings.c"
 target datalayout = "e-m:e-p270:32:32-p271:32:32-p272:64:64-i64:64-f80:128-n8:16:32:64-S128"
 target triple = "x86_64-unknown-linux-gnu"
