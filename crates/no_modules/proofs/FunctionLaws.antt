@@ -1,6 +1,5 @@
 -- The laws of functions with their blocks.
 use Rattle.std.proofs.Common.{List, codes, true, refl}
-use Rattle.no_lex.specs.declared.token.Token.{Token}
 use Rattle.no_ir.specs.declared.function.Block.{Block}
 use Rattle.no_ir.specs.declared.function.Role.{Role}
 use Rattle.no_grammar.specs.Rules.{Rule, done, ◌>>=◌, none, Good, IsSolid}
@@ -16,7 +15,6 @@ use Rattle.no_locals.specs.Numbered.{no_locals}
 use Rattle.no_instr.specs.Instructions.{an_instr}
 use Rattle.no_blocks.specs.Blocks.{body}
 use Rattle.no_blocks.proofs.BodyLaws.{body_good}
-use Rattle.no_tops.specs.Tops.{inside}
 use Rattle.no_tops.proofs.TopLaws.{one_apart, sign_out, inside_good, inside_solid}
 use Rattle.no_modules.specs.Functions.{head_body, written, a_function}
 

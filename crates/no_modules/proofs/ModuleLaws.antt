@@ -1,23 +1,19 @@
 -- What forms give, and the laws of whole modules.
-use Rattle.std.proofs.Common.{◌≡◌, ℕ, Bool, false, List, [], ◌∷◌, ◌++◌, Result, Ok, Err, refl, sym, ap, subst, ◌∙◌, append_assoc, append-nil}
+use Rattle.std.proofs.Common.{◌≡◌, ℕ, Bool, false, List, [], ◌∷◌, ◌++◌, Ok, refl, sym, ap, subst, ◌∙◌, append_assoc, append-nil}
 use Rattle.no_lex.specs.declared.token.Token.{Token}
 use Rattle.no_ir.specs.declared.types.Ty.{Ty}
-use Rattle.no_ir.specs.declared.function.Function.{Function}
-use Rattle.no_ir.specs.declared.function.GlobalVar.{GlobalVar}
 use Rattle.no_ir.specs.declared.function.Module.{Module}
 use Rattle.no_ir.specs.declared.function.Role.{Role}
-use Rattle.no_grammar.specs.declared.fault.Stopped.{Stopped}
-use Rattle.no_grammar.specs.Rules.{after, all_taken, next_is, Avoids}
+use Rattle.no_grammar.specs.Rules.{after, all_taken}
 use Rattle.no_grammar.specs.Scope.{Meaning}
 use Rattle.no_grammar.proofs.Laws.{from_ok, after_ok}
-use Rattle.no_instr.specs.Instructions.{instr_goes_on}
 use Rattle.no_modules.specs.declared.groups.Settings.{Settings}
 use Rattle.no_modules.specs.declared.tops.Top.{Top}
 use Rattle.no_modules.specs.declared.tops.Top.TheVariants as top
-use Rattle.no_modules.specs.Gathered.{gathered_by, gathered}
+use Rattle.no_modules.specs.Gathered.{gathered}
 use Rattle.no_modules.specs.Grouping.{found_in, all_grouped, no_groups}
 use Rattle.no_modules.specs.Modules.{function_of, functions_in, globals_in, layout_or, module_of, IsModuleOf, with_module, forms_read}
-use Rattle.no_modules.specs.Tops.{begins_top, tops}
+use Rattle.no_modules.specs.Tops.{tops}
 use Rattle.no_modules.proofs.TopsLaws.{tops_good}
 
 -- ---- going through the forms

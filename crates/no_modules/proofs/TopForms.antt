@@ -1,13 +1,13 @@
 -- The laws of one form at the top.
-use Rattle.std.proofs.Common.{◌≡◌, ℕ, Bool, true, false, ◌||◌, ◌==◌, if◌then◌else◌, List, [], ◌∷◌, ◌++◌, bytes_eq, codes, Option, Some, None, Result, Ok, Err, inl, inr, refl, sym, ap, subst, ◌∙◌}
+use Rattle.std.proofs.Common.{◌≡◌, ℕ, Bool, true, false, ◌||◌, if◌then◌else◌, List, bytes_eq, codes, Option, Some, refl, ap, ◌∙◌}
 use Rattle.std.proofs.lemmas.Slice.Eq.{bytes_eq-Decides}
 use Rattle.no_lex.specs.declared.token.Token.{Token}
 use Rattle.no_lex.specs.declared.token.TokenKind.{TokenKind}
 use Rattle.no_lex.specs.declared.token.TokenKind.TheVariants as kind
 use Rattle.no_ir.specs.declared.function.Role.{Role}
-use Rattle.no_grammar.specs.Rules.{Rule, done, ◌>>=◌, lift, if_next, Avoids, none, Good, IsSolid}
+use Rattle.no_grammar.specs.Rules.{Rule, lift, if_next, none, Good, IsSolid}
 use Rattle.no_grammar.specs.Scope.{Meaning}
-use Rattle.no_grammar.specs.Spelled.{kind_number, spelled, is_kind, is_sign}
+use Rattle.no_grammar.specs.Spelled.{spelled, is_kind}
 use Rattle.no_grammar.proofs.Laws.{weaker, plain_good, plain_solid, done_good, lift_good, lift_solid, then_good, first_solid, if_next_good, if_next_solid}
 use Rattle.no_attrs.specs.Attributes.{may_go_on}
 use Rattle.no_attrs.specs.Words.{is_attribute_word}
@@ -17,15 +17,14 @@ use Rattle.no_globals.specs.Globals.{is_comma, a_global}
 use Rattle.no_globals.proofs.GlobalLaws.{a_global_good, global_solid}
 use Rattle.no_instr.specs.Instructions.{instr_goes_on}
 use Rattle.no_blocks.proofs.InstrApart.{word_apart}
-use Rattle.no_tops.specs.Tops.{a_source, a_target, a_group, a_node, a_declaration}
-use Rattle.no_tops.proofs.TopLaws.{source_good, source_solid, target_good, target_solid, group_good, group_solid, node_good, node_solid, declaration_good, declaration_solid}
-use Rattle.no_modules.specs.declared.tops.Top.{Top}
+use Rattle.no_tops.specs.Tops.{a_source, a_group, a_node, a_declaration}
+use Rattle.no_tops.proofs.TopLaws.{source_good, target_good, group_good, node_good, node_solid, declaration_good}
 use Rattle.no_modules.specs.declared.tops.Top.TheVariants as top
 use Rattle.no_modules.specs.declared.tops.TopWord.{TopWord}
 use Rattle.no_modules.specs.declared.tops.TopWord.TheVariants as begins
 use Rattle.no_modules.specs.Functions.{a_function}
-use Rattle.no_modules.specs.Tops.{word_of, word_at, is_top_word, top_word, begins_top, source_top, layout_top, target_top, function_top, declared, declared_top, group_top, global_top, node_top, after_word, worded, a_top}
-use Rattle.no_modules.proofs.FunctionLaws.{function_good, function_solid}
+use Rattle.no_modules.specs.Tops.{word_of, is_top_word, top_word, begins_top, source_top, layout_top, target_top, function_top, declared, declared_top, group_top, global_top, node_top, after_word, worded, a_top}
+use Rattle.no_modules.proofs.FunctionLaws.{function_good}
 
 -- what goes on with less is as good where more is avoided
 narrower : {S A : Type 0} (g h : Token → Bool) (p : Rule S A) → ((t : Token) → h t ≡ false → g t ≡ false) → Good g p → Good h p

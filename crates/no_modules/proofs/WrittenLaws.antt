@@ -1,6 +1,6 @@
 -- What groups set is what they set with each of them written out.
-use Rattle.std.proofs.Common.{◌≡◌, ℕ, suc, zero, ◌+◌, Bool, true, false, not, ◌||◌, cond, nat_lt, if◌then◌else◌, List, [], ◌∷◌, ◌++◌, length, get_or, slice_set, position, bytes_eq, Option, Some, None, refl, sym, ap, subst, ◌∙◌, append_assoc, arith}
-use Rattle.std.specs.List.{position_or_len, list_any}
+use Rattle.std.proofs.Common.{◌≡◌, ℕ, suc, ◌+◌, Bool, true, false, not, ◌||◌, cond, nat_lt, if◌then◌else◌, List, [], ◌∷◌, ◌++◌, length, get_or, slice_set, position, bytes_eq, Some, None, refl, sym, ap, ◌∙◌, arith}
+use Rattle.std.specs.List.{position_or_len}
 use Rattle.std.proofs.lemmas.Bool.{lt-ltb, ltb-true, ltb-false, le-ltb}
 use Rattle.std.proofs.lemmas.Slice.Eq.{bytes_eq-Decides}
 use Rattle.no_ir.specs.Naming.{is_known, with_name, place_of}
@@ -11,7 +11,7 @@ use Rattle.no_modules.specs.declared.groups.Settings.{Settings}
 use Rattle.no_modules.specs.declared.groups.Groups.{Groups}
 use Rattle.no_modules.specs.declared.tops.Top.{Top}
 use Rattle.no_modules.specs.declared.tops.Top.TheVariants as top
-use Rattle.no_modules.specs.Grouping.{nothing_set, set_by, set_by_all, entry_at, found_in, with_entry, grouped, grouped_by, all_grouped, no_groups}
+use Rattle.no_modules.specs.Grouping.{nothing_set, set_by, set_by_all, entry_at, found_in, with_entry, grouped, all_grouped, no_groups}
 use Rattle.no_modules.specs.Modules.{latest, joined, with_mark, with_marks}
 use Rattle.no_modules.specs.WrittenOut.{marks_named, one_written, written_out}
 

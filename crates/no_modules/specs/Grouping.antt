@@ -1,5 +1,5 @@
 -- Groups of attributes by name (LLVM Language Reference, "Attribute Groups").
-use Rattle.std.specs.Prelude.{ℕ, Bool, true, false, List, [], ◌∷◌, ◌++◌, get_or, slice_set, length, nat_lt, position, bytes_eq, Option, Some, None, if◌then◌else◌}
+use Rattle.std.specs.Prelude.{ℕ, true, false, List, [], ◌∷◌, ◌++◌, get_or, slice_set, length, nat_lt, position, bytes_eq, Option, Some, None, if◌then◌else◌}
 use Rattle.no_ir.specs.Naming.{with_name, place_of}
 use Rattle.no_grammar.specs.Spelled.{spelled}
 use Rattle.no_attrs.specs.declared.marks.Mark.{Mark}

@@ -7,7 +7,7 @@ use Rattle.no_grammar.specs.declared.fault.Flaw.{Flaw}
 use Rattle.no_grammar.specs.declared.fault.Flaw.TheVariants.{Syntax}
 use Rattle.no_grammar.specs.Rules.{Rule, plain, done, ◌>>=◌, lift, if_next}
 use Rattle.no_grammar.specs.Scope.{Meaning}
-use Rattle.no_grammar.specs.Spelled.{spelled, is_kind, is_word}
+use Rattle.no_grammar.specs.Spelled.{spelled, is_kind}
 use Rattle.no_attrs.specs.Ending.{more_where, items_where}
 use Rattle.no_globals.specs.Globals.{a_global}
 use Rattle.no_heads.specs.declared.heads.Head.{Head}

@@ -1,5 +1,5 @@
 -- What a function's attributes set, said without a table of groups: each group is written out (LLVM Language Reference, "Attribute Groups").
-use Rattle.std.specs.Prelude.{ℕ, Bool, List, [], ◌∷◌, ◌++◌, bytes_eq, if◌then◌else◌}
+use Rattle.std.specs.Prelude.{ℕ, List, [], ◌∷◌, ◌++◌, bytes_eq, if◌then◌else◌}
 use Rattle.no_grammar.specs.Spelled.{spelled}
 use Rattle.no_attrs.specs.declared.marks.Mark.{Mark}
 use Rattle.no_attrs.specs.declared.marks.Mark.TheVariants as mark
