@@ -1,0 +1,5 @@
+pub mod Paths
+pub mod Words
+pub mod Flow
+pub mod Survey
+pub mod Judge
