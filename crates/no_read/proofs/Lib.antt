@@ -1,1 +1,2 @@
 pub mod KnowingLaws
+pub mod ReadingLaws

@@ -3,6 +3,7 @@
 
 mod fault;
 mod known;
+mod typed;
 
 pub use fault::{ReadError, ReadFault, read_fault};
 pub use known::{Known, read_names};
