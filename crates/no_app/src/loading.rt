@@ -1,9 +1,11 @@
-ghost use Rattle.std.specs.Prelude.{Err, ◌≡◌, ◌<◌, ◌^◌, ◌++◌, length, map, IfOk, IsTrue, true, Ok};
+ghost use Rattle.std.specs.Prelude.{◌≡◌, ◌<◌, ◌^◌, ◌∷◌, [], ◌++◌, not, length, map, IfOk, IsTrue, true, Result, Ok, Err, None};
+ghost use Rattle.no_ir.specs.Naming.{is_known};
+ghost use Rattle.no_semantics.specs.Accepted.{Accepted};
+ghost use Rattle.no_app.specs.declared.outcome.ModuleFault.{ModuleFault};
 ghost use Rattle.no_image.specs.Fits.{has_image};
 ghost use Rattle.no_ir.specs.declared.function.Role.TheVariants.{Source};
 ghost use Rattle.no_layout.specs.Text.{is_formed, layout_of};
-ghost use Rattle.no_read.specs.Reading.{Reads};
-ghost use Rattle.no_app.specs.Programs.{Loads, Means, MeansTokens, accepted_of, are_main_params, are_new, global_names, has_main, have_names, is_main, is_pointer, laid_out, left_out, under};
+ghost use Rattle.no_app.specs.Programs.{Loads, Means, MeansTokens, are_main_params, are_new, global_names, has_main, have_names, is_main, is_pointer, judged, laid_out, left_out, under};
 
 use crate::beyond::{first_beyond, is_i32};
 use crate::outcome::ModuleFault;
@@ -140,10 +142,12 @@ fn with_image(alloc: Global, sound: Sound) -> Result<Sound, Refused>
     ensures same { IfOk result (λ s. s ≡ sound) }
     ensures fits { IfOk result (λ s. has_image s.«module» s.layout s.sizes ≡ true) }
 {
-    if !fits(&sound) || !has_main(sound.module()) || !have_names(alloc, sound.module())? {
-        return Err(beyond(alloc, b""));
+    let named = have_names(alloc, sound.module())?;
+    if fits(&sound) && (has_main(sound.module()) && named) {
+        Ok(sound)
+    } else {
+        Err(beyond(alloc, b""))
     }
-    Ok(sound)
 }
 
 /// A module under its layout, where a machine runs it.
@@ -188,6 +192,7 @@ fn accepted(alloc: Global, program: Module) -> Result<Sound, Refused>
 fn read(alloc: Global, text: &[u8], tokens: &[Token]) -> Result<Sound, Refused>
     requires { length text.now < 2 ^ 32 }
     ensures loads { Loads result (MeansTokens text.now (Ok tokens.now)) }
+    ensures only { (answer : Result Accepted ModuleFault) → MeansTokens text.now (Ok tokens.now) answer → Loads result (λ found. found ≡ answer) }
     ensures fits { IfOk result (λ s. has_image s.«module» s.layout s.sizes ≡ true) }
     ensures role { IfOk result (λ s. s.role ≡ Source) }
 {
@@ -200,7 +205,9 @@ fn read(alloc: Global, text: &[u8], tokens: &[Token]) -> Result<Sound, Refused>
 
 /// The program that a text means, or the first fault.
 pub(crate) fn load(alloc: Global, text: &[u8]) -> Result<Sound, Refused>
+    // What is loaded is what the text means, and it means one thing at most.
     ensures loads { Loads result (Means text.now) }
+    ensures only { (answer : Result Accepted ModuleFault) → Means text.now answer → Loads result (λ found. found ≡ answer) }
     ensures fits { IfOk result (λ s. has_image s.«module» s.layout s.sizes ≡ true) }
     ensures role { IfOk result (λ s. s.role ≡ Source) }
 {

@@ -54,7 +54,7 @@ fn with_symbols(alloc: Global, text: &[u8], lifted: Lifted) -> Result<Known, NoM
 }
 
 /// The error where reading stopped.
-fn stop_error(alloc: Global, text: &[u8], tokens: &[Token], stop: Stop) -> ReadError
+pub(crate) fn stop_error(alloc: Global, text: &[u8], tokens: &[Token], stop: Stop) -> ReadError
     requires { length text.now < 2 ^ 32 }
     ensures { StopsAs text.now tokens.now stop result }
 {
@@ -69,7 +69,7 @@ fn stop_error(alloc: Global, text: &[u8], tokens: &[Token], stop: Stop) -> ReadE
 
 /// What the names of a text mean, or the first fault.
 #[tactic(auto, using(crate::proofs::KnowingLaws::is_known, crate::proofs::KnowingLaws::is_refused))]
-fn names_in(alloc: Global, text: &[u8], tokens: &[Token]) -> Result<Known, ReadError>
+pub(crate) fn names_in(alloc: Global, text: &[u8], tokens: &[Token]) -> Result<Known, ReadError>
     requires { length text.now < 2 ^ 32 }
     ensures { Answers result (Knows text.now tokens.now) }
 {

@@ -1,4 +1,4 @@
-ghost use Rattle.std.specs.Prelude.{◌≡◌, IfOk};
+ghost use Rattle.std.specs.Prelude.{◌≡◌, [], IfOk};
 ghost use Rattle.std.specs.List.{zip};
 ghost use Rattle.no_ir.specs.Naming.{IsDistinct};
 ghost use Rattle.no_read.specs.Reading.{name_all, typed};
@@ -12,9 +12,14 @@ fn paired(alloc: Global, names: &[Bytes], types: &[Ty]) -> Result<List<(Bytes, T
     ensures { IfOk result (λ all. all ≡ zip names.now types.now) }
 {
     let mut all = List::new(alloc);
-    for (name, ty) in names.iter().zip(types) {
+    let mut rest = types;
+    for name in names {
+        let [ty, more @ ..] = rest else {
+            return Ok(all);
+        };
         let name = List::from_slice(alloc, name.as_slice())?;
         all.push((name, ty.copy(alloc)?))?;
+        rest = more;
     }
     Ok(all)
 }

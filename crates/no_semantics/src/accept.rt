@@ -119,14 +119,15 @@ fn checks_block(program: &Module, block: &Block, layout: &Layout, sizes: &Sizes)
     ensures { result ≡ block_fits program.now layout.now sizes.now block.now }
 {
     for instr in block.instrs.as_slice() {
-        if !checks_op(program, &instr.op, layout, sizes) {
+        if !check_op(program, &instr.op, layout, sizes) {
             return false;
         }
     }
     true
 }
 
-fn checks_op(program: &Module, op: &Op, layout: &Layout, sizes: &Sizes) -> bool
+/// Whether a machine runs an instruction of a module.
+pub fn check_op(program: &Module, op: &Op, layout: &Layout, sizes: &Sizes) -> bool
     requires { IsTrue (is_formed layout.now) }
     ensures { result ≡ op_fits program.now layout.now sizes.now op.now }
 {

@@ -1,0 +1,43 @@
+-- What is loaded is what a text means, and it means one thing at most.
+use Rattle.std.proofs.Common.{◌≡◌, ℕ, List, refl, sym, ap, subst, ◌∙◌, Result, Ok, Err}
+use Rattle.no_ir.specs.declared.function.Module.{Module}
+use Rattle.no_ir.specs.declared.function.Role.TheVariants.{Source}
+use Rattle.no_lex.specs.declared.fault.LexFault.{LexFault}
+use Rattle.no_lex.specs.declared.token.Token.{Token}
+use Rattle.no_lex.specs.Tokens.{Lexes}
+use Rattle.no_read.specs.declared.fault.ReadFault.{ReadFault}
+use Rattle.no_read.specs.Reading.{Reads}
+use Rattle.no_semantics.specs.Accepted.{Accepted}
+use Rattle.no_app.specs.Programs.{Loads, Means, MeansTokens, accepted_of, text_limit}
+use Rattle.no_app.specs.declared.loading.Refused.{Refused}
+use Rattle.no_app.specs.declared.loading.Refused.TheVariants as refused
+use Rattle.no_app.specs.declared.outcome.ModuleFault.{ModuleFault}
+use Rattle.no_app.specs.declared.outcome.ModuleFault.TheVariants as modules
+
+abbrev pub Answer : Type 0
+Answer = Result Accepted ModuleFault
+
+-- a fact of what was loaded follows from another
+pub loads_so : (P Q : Answer → Type 0) → ((x : Answer) → P x → Q x) → (r : Result Accepted Refused) → Loads r P → Loads r Q
+loads_so P Q so (Ok a) p = so (Ok a) p
+loads_so P Q so (Err (refused.Bad fault)) p = so (Err fault) p
+loads_so P Q so (Err refused.NoMemory) p = tt
+
+-- the tokens read to a module, and this was judged
+pub read_loads : (text : List ℕ) (tokens : List Token) (found : Result Module ReadFault) (r : Result Accepted Refused) → Reads text Source tokens found
+    → Loads r (λ x. x ≡ accepted_of found) → Loads r (MeansTokens text (Ok tokens))
+read_loads text tokens found r reads = loads_so (λ x. x ≡ accepted_of found) (MeansTokens text (Ok tokens)) (λ x e. (found, reads, e)) r
+
+pub read_only : (text : List ℕ) (tokens : List Token) (found : Result Module ReadFault) (r : Result Accepted Refused)
+    → ((answer : Result Module ReadFault) → Reads text Source tokens answer → found ≡ answer)
+    → Loads r (λ x. x ≡ accepted_of found) → (answer : Answer) → MeansTokens text (Ok tokens) answer → Loads r (λ x. x ≡ answer)
+read_only text tokens found r only loads answer means =
+    loads_so (λ x. x ≡ accepted_of found) (λ x. x ≡ answer) (λ x e. e ∙ ap accepted_of (only means.0 means.1) ∙ sym means.2) r loads
+
+-- the text parts into tokens, or has a fault
+pub text_loads : (text : List ℕ) (lexed : Result (List Token) LexFault) (r : Result Accepted Refused) → Lexes text_limit text lexed → Loads r (MeansTokens text lexed) → Loads r (Means text)
+text_loads text lexed r lexes = loads_so (MeansTokens text lexed) (Means text) (λ x m. record { lexed = lexed; lexes = lexes; means = m }) r
+
+pub text_means : (text : List ℕ) (lexed : Result (List Token) LexFault) (answer : Answer) → ((other : Result (List Token) LexFault) → Lexes text_limit text other → lexed ≡ other)
+    → Means text answer → MeansTokens text lexed answer
+text_means text lexed answer only m = subst (λ (l : Result (List Token) LexFault). MeansTokens text l answer) (sym (only m.lexed m.lexes)) m.means

@@ -1,0 +1,68 @@
+ghost use Rattle.std.specs.Prelude.{ℕ, List, ◌≡◌, ◌<◌, ◌^◌, length, Result};
+ghost use Rattle.no_ir.specs.declared.function.Module.{Module};
+ghost use Rattle.no_ir.specs.declared.function.Role.{Role};
+ghost use Rattle.no_lex.specs.declared.token.Token.{Token};
+ghost use Rattle.no_grammar.specs.Rules.{Gives};
+ghost use Rattle.no_read.specs.declared.fault.ReadFault.{ReadFault};
+ghost use Rattle.no_read.specs.Knowing.{Answers};
+ghost use Rattle.no_read.specs.Reading.{IsModule, Reads, read_by};
+
+use crate::known::{names_in, stop_error};
+use crate::typed::with_types;
+use crate::{Known, ReadError};
+use no_grammar::Stop;
+use no_ir::{Module, Role};
+use no_lex::Token;
+use no_modules::{a_module, modules_are_exact};
+use std::alloc::Global;
+
+/// The module of the forms, where it is known what names mean.
+fn forms(alloc: Global, text: &[u8], known: Known, role: Role) -> Result<Module, Stop>
+    ensures { Gives (λ m. m) result (read_by text.now role known) }
+{
+    let (known, types) = with_types(alloc, known)?;
+    let scope = known.scope(text);
+    a_module(alloc, &scope, role, types, known.rest.as_slice())
+}
+
+fn read(alloc: Global, text: &[u8], tokens: &[Token], role: Role) -> Result<Module, ReadError>
+    requires { length text.now < 2 ^ 32 }
+    ensures { Answers result (Reads text.now role tokens.now) }
+{
+    let known = match names_in(alloc, text, tokens) {
+        Ok(known) => known,
+        Err(error) => return Err(error),
+    };
+    match forms(alloc, text, known, role) {
+        Ok(module) => Ok(module),
+        Err(stop) => Err(stop_error(alloc, text, tokens, stop)),
+    }
+}
+
+/// The module that the tokens of a text of less than 2 to the power of 32 bytes read to, or the first fault.
+///
+/// Type definitions are read first, wherever they stand, and then all other tokens in order. The first token that no form
+/// allows is LeftOut where the profile leaves its word out, and Syntax otherwise; Number is a number out of its range, and
+/// Circle the first named type that lies on a circle of references. Where the text ends before a form is whole, that is
+/// Syntax at the text's length.
+pub fn read_module(
+    alloc: Global,
+    text: &[u8],
+    tokens: &[Token],
+    role: Role,
+) -> Result<Module, ReadError>
+    requires { length text.now < 2 ^ 32 }
+    // What is answered is what the text reads to, a module or a fault, and at most one answer is.
+    ensures reads { Answers result (Reads text.now role tokens.now) }
+    ensures only { (answer : Result Module ReadFault) → Reads text.now role tokens.now answer → Answers result (λ found. found ≡ answer) }
+{
+    modules_are_exact();
+    read(alloc, text, tokens, role)
+}
+
+/// A text reads to one module at most.
+pub fn at_most_one_module()
+    ensures { (text : List ℕ) (role : Role) (tokens : List Token) (a b : Module) → IsModule text role tokens a → IsModule text role tokens b → a ≡ b }
+{
+    modules_are_exact();
+}
