@@ -1,13 +1,13 @@
 -- What follows an instruction's form behind commas: alignments, and metadata attachments (LLVM Language Reference, "Metadata").
-use Rattle.std.specs.Prelude.{ℕ, ◌==◌, Bool, true, false, not, ◌&&◌, ◌||◌, List, [], ◌∷◌, ◌++◌, take, codes, bytes_eq, Option, Some, None, Result, Ok, Err, if◌then◌else◌}
+use Rattle.std.specs.Prelude.{ℕ, Bool, true, false, not, ◌&&◌, ◌||◌, List, [], ◌∷◌, ◌++◌, take, codes, bytes_eq, Option, Some, None, Result, Ok, Err, if◌then◌else◌}
 use Rattle.no_lex.specs.declared.token.Token.{Token}
-use Rattle.no_lex.specs.declared.token.TokenKind.TheVariants.{Integer, Meta}
+use Rattle.no_lex.specs.declared.token.TokenKind.TheVariants.{Meta}
 use Rattle.no_ir.specs.declared.function.Role.{Role}
 use Rattle.no_ir.specs.declared.function.Role.TheVariants.{Source, Part}
 use Rattle.no_ir.specs.declared.instruction.Op.{Op}
 use Rattle.no_grammar.specs.declared.fault.Flaw.{Flaw}
-use Rattle.no_grammar.specs.declared.fault.Flaw.TheVariants.{Syntax, Number}
-use Rattle.no_grammar.specs.Numbers.{decimal}
+use Rattle.no_grammar.specs.declared.fault.Flaw.TheVariants.{Syntax}
+use Rattle.no_attrs.specs.Attributes.{alignment_of}
 use Rattle.no_grammar.specs.Rules.{Rule, plain, done, ◌>>=◌, lift, if_next}
 use Rattle.no_grammar.specs.Spelled.{spelled, is_kind, is_word, is_sign, a_word, a_sign}
 use Rattle.no_locals.specs.declared.locals.Locals.{Locals}
@@ -21,19 +21,7 @@ is_comma text = is_sign text (codes ",")
 
 -- ---- alignments
 
--- a power of two up to 65,536
-abbrev pub is_alignment : ℕ → Bool
-is_alignment n =
-    n == 1 || n == 2 || n == 4 || n == 8 || n == 16 || n == 32 || n == 64 || n == 128 || n == 256 || n == 512 || n == 1024
-    || n == 2048 || n == 4096 || n == 8192 || n == 16384 || n == 32768 || n == 65536
-
-abbrev pub aligned : Option ℕ → Result ℕ Flaw
-aligned None = Err Number
-aligned (Some n) = if is_alignment n then Ok n else Err Number
-
-abbrev pub alignment_of : List ℕ → Token → Result ℕ Flaw
-alignment_of text token = if is_kind Integer token then aligned (decimal 65536 (spelled text token)) else Err Syntax
-
+-- the word, and a power of two up to 65,536
 unfoldable pub an_alignment : List ℕ → Rule (Unit {0}) ℕ
 an_alignment text = a_word text (codes "align") >>= λ _. plain (alignment_of text)
 

@@ -1,63 +1,15 @@
 ghost use Rattle.std.specs.Prelude.{◌≡◌, ◌∷◌, ◌++◌, [], true, false, codes};
 ghost use Rattle.no_grammar.specs.Rules.{Gives, valued, plain, next_is};
-ghost use Rattle.no_grammar.specs.Numbers.{decimal};
+ghost use Rattle.no_attrs.specs.Attributes.{alignment_of};
 ghost use Rattle.no_grammar.specs.Spelled.{is_sign};
 ghost use Rattle.no_locals.specs.declared.locals.Locals.{Locals};
 ghost use Rattle.no_forms.specs.Folded.{folded_all};
-ghost use Rattle.no_forms.specs.Ends.{is_comma, is_alignment, aligned, alignment_of, an_alignment, names_node, is_node, node_is, marks, an_attachment, end_alignment, end_attachment, end_step, end_mark, finish};
+ghost use Rattle.no_forms.specs.Ends.{is_comma, an_alignment, names_node, is_node, node_is, marks, an_attachment, end_alignment, end_attachment, end_step, end_mark, finish};
 
-use no_grammar::{
-    Flaw, Stop, decimal, fault_at, is_kind, is_sign, is_word, skip_sign, skip_word, spelled, syntax,
-};
+use no_attrs::alignment;
+use no_grammar::{Stop, is_kind, is_sign, is_word, skip_sign, skip_word, spelled, syntax};
 use no_ir::{List, Op, Role};
 use no_lex::{Token, TokenKind};
-
-fn is_alignment(number: u64) -> bool
-    ensures { result ≡ is_alignment number }
-{
-    matches!(
-        number,
-        1 | 2
-            | 4
-            | 8
-            | 16
-            | 32
-            | 64
-            | 128
-            | 256
-            | 512
-            | 1024
-            | 2048
-            | 4096
-            | 8192
-            | 16384
-            | 32768
-            | 65536
-    )
-}
-
-fn alignment_of(spelling: &[u8]) -> Result<u32, Flaw>
-    ensures { result ≡ aligned (decimal 65536 spelling.now) }
-{
-    match decimal(65536, spelling) {
-        Some(number) if is_alignment(number) => Ok(number as u32),
-        _ => Err(Flaw::Number),
-    }
-}
-
-fn alignment<'b>(text: &[u8], tokens: &'b [Token]) -> Result<(u32, &'b [Token]), Stop>
-    ensures { Gives (λ x. valued x.0 x.1.now) result ((plain (alignment_of text.now)).read tt tokens.now) }
-{
-    match tokens {
-        [token, rest @ ..] if is_kind(TokenKind::Integer, token) => match alignment_of(spelled(
-            text, token,
-        )) {
-            Ok(number) => Ok((number, rest)),
-            Err(flaw) => Err(fault_at(flaw, tokens)),
-        },
-        _ => Err(syntax(tokens)),
-    }
-}
 
 /// The word `align`, and a power of two up to 65,536.
 #[tactic(auto, unfolding(crate::specs::Ends::an_alignment))]

@@ -1,0 +1,6 @@
+pub mod FunctionLaws
+pub mod ManyTops
+pub mod ModuleLaws
+pub mod TopForms
+pub mod TopsLaws
+pub mod WrittenLaws

@@ -1,0 +1,6 @@
+pub mod Functions
+pub mod Gathered
+pub mod Grouping
+pub mod Modules
+pub mod Tops
+pub mod WrittenOut
