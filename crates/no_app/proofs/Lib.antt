@@ -1,5 +1,5 @@
 pub mod Numbers
-pub mod Loading
+pub mod Meanings
 pub mod Programs
 pub mod Starting
 pub mod Jobs

@@ -1,6 +1,9 @@
 -- Sizes of a module's types.
 use Rattle.std.proofs.Common.{◌≡◌, ℕ, zero, suc, ◌<◌, Bool, true, false, ◌&&◌, List, [], ◌∷◌, length, refl, sym, ap, subst, ◌∙◌, Option, Some, None, Result, Ok, Err, arith}
-use Rattle.std.specs.Prelude.{take, slice_get, if◌then◌else◌}
+use Rattle.std.specs.Prelude.{take, slice_get, if◌then◌else◌, not, nat_lt, ◌++◌}
+use Rattle.std.proofs.lemmas.Bool.{le-ltb, lt-ltb}
+use Rattle.std.proofs.Common.{length-append}
+use Rattle.no_ir.specs.Naming.{is_known, with_name}
 use Rattle.std.specs.List.{fold}
 use Rattle.no_ir.specs.declared.types.Ty.{Ty}
 use Rattle.no_layout.specs.declared.extent.Extent.{Extent}
@@ -13,7 +16,8 @@ use Rattle.no_semantics.specs.Sound.{is_sound}
 use Rattle.no_app.specs.declared.outcome.ModuleFault.{ModuleFault}
 use Rattle.no_app.specs.declared.loading.Refused.{Refused}
 use Rattle.no_app.specs.Beyond.{first_beyond}
-use Rattle.no_app.specs.Programs.{types_fit, with_layout, judged, laid_out, left_out, Loads}
+use Rattle.no_layout.specs.Text.{layout_of}
+use Rattle.no_app.specs.Programs.{types_fit, with_layout, judged, laid_out, left_out, under, Loads}
 
 -- whether entry k fits, by the sizes of those before it, behind others
 abbrev pub fits_behind : Layout → List Extent → List (List ℕ × Ty) → ℕ → Bool
@@ -81,6 +85,33 @@ unsound_judged m l sizes r are none unsound loads =
     let same : laid_out m l ≡ Err (left_out []) = chosen (types_fit l [] m.types) (first_beyond m l (sizes_of l m.types)) (with_layout m l) (types_of_sizes l m.types sizes are) first ∙ rw not_sound refl in
     subst (λ (x : Result Accepted ModuleFault). Loads r (λ found. found ≡ x)) (sym same) loads
 
-pub large_judged : (m : Module) (l : Layout) (r : Result Accepted Refused) → types_fit l [] m.types ≡ false
+pub large_judged : (m : Module) (l : Layout) (k : ℕ) (r : Result Accepted Refused) → IsTooLarge l m.types k
     → Loads r (λ found. found ≡ Err (left_out [])) → Loads r (λ found. found ≡ laid_out m l)
-large_judged m l r large loads = subst (λ (x : Result Accepted ModuleFault). Loads r (λ found. found ≡ x)) (sym (rw large refl : laid_out m l ≡ Err (left_out []))) loads
+large_judged m l k r large loads =
+    let same : laid_out m l ≡ Err (left_out []) = rw (types_too_large l m.types k large) refl in
+    subst (λ (x : Result Accepted ModuleFault). Loads r (λ found. found ≡ x)) (sym same) loads
+
+-- ---- names
+
+-- one more where the name is new
+pub grew : (names : List (List ℕ)) (name : List ℕ) → nat_lt (length names) (length (with_name names name)) ≡ not (is_known names name)
+grew names name = by (is_known names name)
+  where
+    by : (b : Bool) → nat_lt (length names) (length (if b then names else names ++ name ∷ [])) ≡ not b
+    by true = le-ltb (length names) (length names) (omega arith)
+    by false = lt-ltb (length names) (length (names ++ name ∷ [])) (rw (length-append names (name ∷ [])) (omega arith))
+
+pub grew_by : (names : List (List ℕ)) (name : List ℕ) → nat_lt (length names) (length (with_name names name)) ≡ true → with_name names name ≡ names ++ name ∷ []
+grew_by names name e = by (is_known names name) (sym (grew names name) ∙ e)
+  where
+    by : (b : Bool) → not b ≡ true → (if b then names else names ++ name ∷ []) ≡ names ++ name ∷ []
+    by true e = absurd cc
+    by false e = refl
+
+-- ---- the layout that the module's string states
+
+pub layout_read : (m : Module) (l : Layout) (text : List ℕ) (r : Result Accepted Refused) → text ≡ m.layout → Ok l ≡ layout_of text
+    → Loads r (λ found. found ≡ laid_out m l) → Loads r (λ found. found ≡ under m (layout_of m.layout))
+layout_read m l text r same is loads =
+    let e : laid_out m l ≡ under m (layout_of m.layout) = ap (under m) is ∙ ap (λ (t : List ℕ). under m (layout_of t)) same in
+    subst (λ (x : Result Accepted ModuleFault). Loads r (λ found. found ≡ x)) e loads

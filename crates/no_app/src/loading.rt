@@ -4,6 +4,7 @@ ghost use Rattle.no_semantics.specs.Accepted.{Accepted};
 ghost use Rattle.no_app.specs.declared.outcome.ModuleFault.{ModuleFault};
 ghost use Rattle.no_image.specs.Fits.{has_image};
 ghost use Rattle.no_ir.specs.declared.function.Role.TheVariants.{Source};
+ghost use Rattle.no_layout.specs.Sizes.{AreSizes};
 ghost use Rattle.no_layout.specs.Text.{is_formed, layout_of};
 ghost use Rattle.no_app.specs.Programs.{Loads, Means, MeansTokens, are_main_params, are_new, global_names, has_main, have_names, is_main, is_pointer, judged, laid_out, left_out, under};
 
@@ -11,7 +12,7 @@ use crate::beyond::{first_beyond, is_i32};
 use crate::outcome::ModuleFault;
 use no_image::fits;
 use no_ir::{Function, GlobalVar, List, Module, Names, NoMemory, Role, Ty};
-use no_layout::{Layout, SizesFault};
+use no_layout::{Layout, Sizes, SizesFault};
 use no_lex::{LexError, Token, tokens};
 use no_read::{ReadError, ReadFault, read_module};
 use no_semantics::{Sound, check};
@@ -86,18 +87,17 @@ fn has_main(program: &Module) -> bool
 }
 
 /// Adds a name, and answers whether it is new.
+#[tactic(auto, using(crate::proofs::Programs::grew, crate::proofs::Programs::grew_by))]
 fn add_name(names: &mut Names, name: &[u8]) -> Result<bool, NoMemory>
     ensures answer { IfOk result (λ b. b ≡ not (is_known names.old name.now)) }
     ensures names { result ≡ Ok true → names.new ≡ names.old ++ name.now ∷ [] }
 {
-    if names.find(name).is_some() {
-        return Ok(false);
-    }
-    if names.len() >= u32::MAX as usize {
+    let before = names.len();
+    if before >= u32::MAX as usize {
         return Err(NoMemory);
     }
     names.number(name)?;
-    Ok(true)
+    Ok(before < names.len())
 }
 
 /// Adds the names of globals, and answers whether each is new.
@@ -150,20 +150,20 @@ fn with_image(alloc: Global, sound: Sound) -> Result<Sound, Refused>
     }
 }
 
-/// A module under its layout, where a machine runs it.
-#[tactic(auto, using(crate::proofs::Programs::types_of_sizes, crate::proofs::Programs::types_too_large))]
-fn with_layout(alloc: Global, program: Module, layout: Layout) -> Result<Sound, Refused>
+/// A module under its layout, with the sizes of its named types.
+#[tactic(auto, using(crate::proofs::Programs::beyond_judged, crate::proofs::Programs::unsound_judged, crate::proofs::Programs::sized_judged))]
+fn with_sizes(
+    alloc: Global,
+    program: Module,
+    layout: Layout,
+    sizes: Sizes,
+) -> Result<Sound, Refused>
     requires formed { IsTrue (is_formed layout) }
-    requires short { length program.types < 2 ^ 32 }
+    requires sizes { AreSizes layout program.types sizes }
     ensures loads { Loads result (λ found. found ≡ laid_out program layout) }
     ensures fits { IfOk result (λ s. has_image s.«module» s.layout s.sizes ≡ true) }
     ensures role { IfOk result (λ s. s.role ≡ Source) }
 {
-    let sizes = match layout.sizes(alloc, &program.types) {
-        Ok(sizes) => sizes,
-        Err(SizesFault::NoMemory) => return Err(Refused::NoMemory),
-        Err(SizesFault::TooLarge(_)) => return Err(beyond(alloc, b"")),
-    };
     if let Some(word) = first_beyond(&program, &layout, &sizes) {
         return Err(beyond(alloc, word));
     }
@@ -171,6 +171,22 @@ fn with_layout(alloc: Global, program: Module, layout: Layout) -> Result<Sound, 
         return Err(beyond(alloc, b""));
     }
     with_image(alloc, Sound::of(program, layout, sizes, Role::Source))
+}
+
+/// A module under its layout, where a machine runs it.
+#[tactic(auto, using(crate::proofs::Programs::large_judged))]
+fn with_layout(alloc: Global, program: Module, layout: Layout) -> Result<Sound, Refused>
+    requires formed { IsTrue (is_formed layout) }
+    requires short { length program.types < 2 ^ 32 }
+    ensures loads { Loads result (λ found. found ≡ laid_out program layout) }
+    ensures fits { IfOk result (λ s. has_image s.«module» s.layout s.sizes ≡ true) }
+    ensures role { IfOk result (λ s. s.role ≡ Source) }
+{
+    match layout.sizes(alloc, &program.types) {
+        Ok(sizes) => with_sizes(alloc, program, layout, sizes),
+        Err(SizesFault::NoMemory) => Err(Refused::NoMemory),
+        Err(SizesFault::TooLarge(_)) => Err(beyond(alloc, b"")),
+    }
 }
 
 /// A module with the layout that it states, where a machine runs it.
@@ -189,6 +205,7 @@ fn accepted(alloc: Global, program: Module) -> Result<Sound, Refused>
 }
 
 /// The program that a text's tokens mean.
+#[tactic(auto, using(crate::proofs::Meanings::read_loads, crate::proofs::Meanings::read_only))]
 fn read(alloc: Global, text: &[u8], tokens: &[Token]) -> Result<Sound, Refused>
     requires { length text.now < 2 ^ 32 }
     ensures loads { Loads result (MeansTokens text.now (Ok tokens.now)) }
@@ -204,6 +221,7 @@ fn read(alloc: Global, text: &[u8], tokens: &[Token]) -> Result<Sound, Refused>
 }
 
 /// The program that a text means, or the first fault.
+#[tactic(auto, using(crate::proofs::Meanings::text_loads, crate::proofs::Meanings::text_means))]
 pub(crate) fn load(alloc: Global, text: &[u8]) -> Result<Sound, Refused>
     // What is loaded is what the text means, and it means one thing at most.
     ensures loads { Loads result (Means text.now) }

@@ -39,6 +39,7 @@ fn job_outcome(end: JobEnd) -> Outcome
 }
 
 /// Reads a program's text and runs it on the device alone.
+#[tactic(auto, using(crate::proofs::Outcomes::idle_part))]
 fn run_text<I: Source, O: Sink, L: Ledger>(
     alloc: Global,
     text: &[u8],
