@@ -2,13 +2,19 @@
 use Rattle.std.proofs.Common.{◌≡◌, ℕ, List, refl, sym, ap, subst, ◌∙◌, Result, Ok, Err}
 use Rattle.no_ir.specs.declared.function.Module.{Module}
 use Rattle.no_ir.specs.declared.function.Role.TheVariants.{Source}
+use Rattle.no_lex.specs.declared.fault.LexError.{LexError}
+use Rattle.no_lex.specs.declared.fault.LexError.TheVariants as lexing
 use Rattle.no_lex.specs.declared.fault.LexFault.{LexFault}
+use Rattle.no_lex.specs.Tokens as tokens
+use Rattle.no_read.specs.Knowing as reads
+use Rattle.no_read.specs.declared.fault.ReadError.{ReadError}
+use Rattle.no_read.specs.declared.fault.ReadError.TheVariants as reading
 use Rattle.no_lex.specs.declared.token.Token.{Token}
 use Rattle.no_lex.specs.Tokens.{Lexes}
 use Rattle.no_read.specs.declared.fault.ReadFault.{ReadFault}
 use Rattle.no_read.specs.Reading.{Reads}
 use Rattle.no_semantics.specs.Accepted.{Accepted}
-use Rattle.no_app.specs.Programs.{Loads, Means, MeansTokens, accepted_of, text_limit}
+use Rattle.no_app.specs.Programs.{Loads, Means, MeansTokens, accepted_of, text_limit, unlexed, unread}
 use Rattle.no_app.specs.declared.loading.Refused.{Refused}
 use Rattle.no_app.specs.declared.loading.Refused.TheVariants as refused
 use Rattle.no_app.specs.declared.outcome.ModuleFault.{ModuleFault}
@@ -41,3 +47,25 @@ text_loads text lexed r lexes = loads_so (MeansTokens text lexed) (Means text) (
 pub text_means : (text : List ℕ) (lexed : Result (List Token) LexFault) (answer : Answer) → ((other : Result (List Token) LexFault) → Lexes text_limit text other → lexed ≡ other)
     → Means text answer → MeansTokens text lexed answer
 text_means text lexed answer only m = subst (λ (l : Result (List Token) LexFault). MeansTokens text l answer) (sym (only m.lexed m.lexes)) m.means
+
+-- ---- errors
+
+pub unread_loads : (text : List ℕ) (tokens : List Token) (e : ReadError) → reads.Answers {A = Module} (Err e) (Reads text Source tokens) → Loads (Err (unread e)) (MeansTokens text (Ok tokens))
+unread_loads text tokens reading.NoMemory r = tt
+unread_loads text tokens (reading.Fault fault) r = (Err fault, r, refl)
+
+pub unread_only : (text : List ℕ) (tokens : List Token) (e : ReadError)
+    → ((answer : Result Module ReadFault) → Reads text Source tokens answer → reads.Answers {A = Module} (Err e) (λ found. found ≡ answer))
+    → (answer : Answer) → MeansTokens text (Ok tokens) answer → Loads (Err (unread e)) (λ x. x ≡ answer)
+unread_only text tokens reading.NoMemory only answer means = tt
+unread_only text tokens (reading.Fault fault) only answer means = ap accepted_of (only means.0 means.1) ∙ sym means.2
+
+pub unlexed_loads : (text : List ℕ) (e : LexError) → tokens.Answers (Err e) (Lexes text_limit text) → Loads (Err (unlexed e)) (Means text)
+unlexed_loads text lexing.NoMemory l = tt
+unlexed_loads text (lexing.Fault fault) l = record { lexed = Err fault; lexes = l; means = refl }
+
+pub unlexed_only : (text : List ℕ) (e : LexError)
+    → ((answer : Result (List Token) LexFault) → Lexes text_limit text answer → tokens.Answers (Err e) (λ found. found ≡ answer))
+    → (answer : Answer) → Means text answer → Loads (Err (unlexed e)) (λ x. x ≡ answer)
+unlexed_only text lexing.NoMemory only answer means = tt
+unlexed_only text (lexing.Fault fault) only answer means = sym (text_means text (Err fault) answer only means)

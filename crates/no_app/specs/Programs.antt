@@ -12,9 +12,13 @@ use Rattle.no_layout.specs.declared.fault.LayoutFault.{LayoutFault}
 use Rattle.no_layout.specs.declared.layout.Layout.{Layout}
 use Rattle.no_layout.specs.Sizes.{measure_of, with_type, sizes_of}
 use Rattle.no_layout.specs.Text.{layout_of}
+use Rattle.no_lex.specs.declared.fault.LexError.{LexError}
+use Rattle.no_lex.specs.declared.fault.LexError.TheVariants as lexing
 use Rattle.no_lex.specs.declared.fault.LexFault.{LexFault}
 use Rattle.no_lex.specs.declared.token.Token.{Token}
 use Rattle.no_lex.specs.Tokens.{Lexes}
+use Rattle.no_read.specs.declared.fault.ReadError.{ReadError}
+use Rattle.no_read.specs.declared.fault.ReadError.TheVariants as reading
 use Rattle.no_read.specs.declared.fault.ReadFault.{ReadFault}
 use Rattle.no_read.specs.declared.fault.ReadFault.TheVariants as reads
 use Rattle.no_read.specs.Reading.{Reads}
@@ -119,3 +123,12 @@ abbrev pub Loads : Result Accepted Refused → (Result Accepted ModuleFault → 
 Loads (Ok a) P = P (Ok a)
 Loads (Err (refused.Bad fault)) P = P (Err fault)
 Loads (Err refused.NoMemory) P = Unit {0}
+
+-- why a text gives no program, by its lexer's and its reader's errors
+abbrev pub unlexed : LexError → Refused
+unlexed lexing.NoMemory = refused.NoMemory
+unlexed (lexing.Fault fault) = refused.Bad (modules.Lex fault)
+
+abbrev pub unread : ReadError → Refused
+unread reading.NoMemory = refused.NoMemory
+unread (reading.Fault fault) = refused.Bad (modules.Read fault)

@@ -6,7 +6,7 @@ ghost use Rattle.no_image.specs.Fits.{has_image};
 ghost use Rattle.no_ir.specs.declared.function.Role.TheVariants.{Source};
 ghost use Rattle.no_layout.specs.Sizes.{AreSizes};
 ghost use Rattle.no_layout.specs.Text.{is_formed, layout_of};
-ghost use Rattle.no_app.specs.Programs.{Loads, Means, MeansTokens, are_main_params, are_new, global_names, has_main, have_names, is_main, is_pointer, judged, laid_out, left_out, under};
+ghost use Rattle.no_app.specs.Programs.{Loads, Means, MeansTokens, are_main_params, are_new, global_names, has_main, have_names, is_main, is_pointer, judged, laid_out, left_out, under, unlexed, unread};
 
 use crate::beyond::{first_beyond, is_i32};
 use crate::outcome::ModuleFault;
@@ -204,8 +204,26 @@ fn accepted(alloc: Global, program: Module) -> Result<Sound, Refused>
     }
 }
 
+fn unlexed(error: LexError) -> Refused
+    ensures { result ≡ unlexed error }
+{
+    match error {
+        LexError::NoMemory => Refused::NoMemory,
+        LexError::Fault(fault) => Refused::Bad(ModuleFault::Lex(fault)),
+    }
+}
+
+fn unread(error: ReadError) -> Refused
+    ensures { result ≡ unread error }
+{
+    match error {
+        ReadError::NoMemory => Refused::NoMemory,
+        ReadError::Fault(fault) => Refused::Bad(ModuleFault::Read(fault)),
+    }
+}
+
 /// The program that a text's tokens mean.
-#[tactic(auto, using(crate::proofs::Meanings::read_loads, crate::proofs::Meanings::read_only))]
+#[tactic(auto, using(crate::proofs::Meanings::read_loads, crate::proofs::Meanings::read_only, crate::proofs::Meanings::unread_loads, crate::proofs::Meanings::unread_only))]
 fn read(alloc: Global, text: &[u8], tokens: &[Token]) -> Result<Sound, Refused>
     requires { length text.now < 2 ^ 32 }
     ensures loads { Loads result (MeansTokens text.now (Ok tokens.now)) }
@@ -215,13 +233,12 @@ fn read(alloc: Global, text: &[u8], tokens: &[Token]) -> Result<Sound, Refused>
 {
     match read_module(alloc, text, tokens, Role::Source) {
         Ok(program) => accepted(alloc, program),
-        Err(ReadError::NoMemory) => Err(Refused::NoMemory),
-        Err(ReadError::Fault(fault)) => Err(Refused::Bad(ModuleFault::Read(fault))),
+        Err(error) => Err(unread(error)),
     }
 }
 
 /// The program that a text means, or the first fault.
-#[tactic(auto, using(crate::proofs::Meanings::text_loads, crate::proofs::Meanings::text_means))]
+#[tactic(auto, using(crate::proofs::Meanings::text_loads, crate::proofs::Meanings::text_means, crate::proofs::Meanings::unlexed_loads, crate::proofs::Meanings::unlexed_only))]
 pub(crate) fn load(alloc: Global, text: &[u8]) -> Result<Sound, Refused>
     // What is loaded is what the text means, and it means one thing at most.
     ensures loads { Loads result (Means text.now) }
@@ -231,7 +248,6 @@ pub(crate) fn load(alloc: Global, text: &[u8]) -> Result<Sound, Refused>
 {
     match tokens(alloc, text, TEXT_LIMIT) {
         Ok(tokens) => read(alloc, text, tokens.as_slice()),
-        Err(LexError::NoMemory) => Err(Refused::NoMemory),
-        Err(LexError::Fault(fault)) => Err(Refused::Bad(ModuleFault::Lex(fault))),
+        Err(error) => Err(unlexed(error)),
     }
 }
