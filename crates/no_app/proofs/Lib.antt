@@ -1,3 +1,5 @@
+pub mod Numbers
+pub mod Meanings
 pub mod Programs
 pub mod Starting
 pub mod Jobs

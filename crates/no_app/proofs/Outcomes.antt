@@ -1,19 +1,24 @@
 -- Outcomes of a run, of a text and of a file.
-use Rattle.std.proofs.Common.{◌≡◌, ℕ, ◌≤◌, List, length, take, refl, sym, ap, subst, ◌∙◌, Option, Some, None, Result, Ok, Err, arith, inl, inr, true, false, lit<}
+use Rattle.std.proofs.Common.{◌≡◌, ℕ, ◌≤◌, ◌<◌, List, [], length, take, refl, sym, ap, subst, ◌∙◌, Option, Some, None, Result, Ok, Err, arith, inl, inr, true, false, lit<}
 use Rattle.std.specs.Prelude.{IfSome, nat_le}
 use Rattle.std.proofs.lemmas.List.{take_all, length-take-le}
-use Rattle.std.proofs.lemmas.Bool.{cases_Bool, leb-true, leb-false, lt-leb}
-use Rattle.no_ports.specs.Meanings.{Rose}
+use Rattle.std.proofs.lemmas.Bool.{cases_Bool, leb-true, leb-false}
+use Rattle.no_ports.specs.Meanings.{Rose, Adds}
+use Rattle.no_ports.proofs.Adding.{adds_nothing}
 use Rattle.no_ir.specs.declared.ending.End.TheVariants as end
 use Rattle.no_ir.specs.declared.ending.Trap.{Trap}
 use Rattle.no_app.specs.declared.outcome.ModuleFault.{ModuleFault}
-use Rattle.no_lines.specs.Reading.{module_of}
 use Rattle.no_semantics.specs.Accepted.{Accepted}
 use Rattle.no_semantics.specs.Run.{Ran, run}
-use Rattle.no_app.specs.Programs.{program_of, accepted_of}
+use Rattle.no_app.specs.Programs.{Means, MeansTokens, Loads, text_limit}
+use Rattle.no_app.specs.declared.loading.Refused.{Refused}
+use Rattle.no_app.specs.declared.loading.Refused.TheVariants as refused
+use Rattle.no_lex.specs.declared.fault.LexFault.{LexFault}
+use Rattle.no_lex.specs.declared.token.Token.{Token}
+use Rattle.no_lex.specs.Tokens.{Lexes}
 use Rattle.no_app.specs.Words.{Asked}
 use Rattle.no_app.specs.Jobs.{IsRunOf, Counts, input_of}
-use Rattle.no_app.specs.Outcomes.{Flow, Around, OnProgram, RanWhole, RanPart, RanAs, RunsText, RunsPart, Says, WritesPart, outcome_of, outcome_of_job}
+use Rattle.no_app.specs.Outcomes.{Flow, Around, Idle, RanWhole, RanPart, RunsText, RunsPart, WritesText, Says, WritesPart, outcome_of, outcome_of_job}
 use Rattle.no_app.specs.declared.job.JobEnd.{JobEnd}
 use Rattle.no_app.specs.declared.job.JobEnd.TheVariants as job
 use Rattle.no_app.specs.declared.outcome.Outcome.{Outcome}
@@ -28,96 +33,101 @@ job_part job.WriteFault f ran is counts = record { wrote = is; part = counts.0; 
 job_part job.NoMemory f ran is counts = record { wrote = is; part = counts.0; rises = counts.1; within = counts.2 }
 
 -- the outcome of a job is that of its run
-pub job_ran : (e : JobEnd) (f : Flow) (ran : Ran) → IsRunOf e ran f.held f.held' → Counts e ran.count f.counted f.counted'
-    → (e ≡ job.WriteFault → Rose f.outs f.outs') → RanAs (outcome_of_job e) f ran
-job_ran (job.Ended (end.Exited c) report) f ran is counts fault = record { ended = ap outcome_of is.0; wrote = is.2; counts = counts }
-job_ran (job.Ended (end.Trapped t) report) f ran is counts fault = record { ended = ap outcome_of is.0; wrote = is.2; counts = counts }
-job_ran (job.Ended end.Unfinished report) f ran is counts fault = record { ended = ap outcome_of is.0; wrote = is.2; counts = counts }
-job_ran job.WriteFault f ran is counts fault = fault refl
-job_ran job.NoMemory f ran is counts fault = tt
+pub job_ran : (e : JobEnd) (f : Flow) (input : List ℕ) (steps : ℕ) (text : List ℕ) (p : Accepted) → Means text (Ok p) → IsRunOf e (run p input steps) f.held f.held'
+    → Counts e (run p input steps).count f.counted f.counted' → (e ≡ job.WriteFault → Rose f.outs f.outs') → RunsText (outcome_of_job e) f input steps text
+job_ran (job.Ended (end.Exited c) report) f input steps text p means is counts fault = (p, means, record { ended = ap outcome_of is.0; wrote = is.2; counts = counts })
+job_ran (job.Ended (end.Trapped t) report) f input steps text p means is counts fault = (p, means, record { ended = ap outcome_of is.0; wrote = is.2; counts = counts })
+job_ran (job.Ended end.Unfinished report) f input steps text p means is counts fault = (p, means, record { ended = ap outcome_of is.0; wrote = is.2; counts = counts })
+job_ran job.WriteFault f input steps text p means is counts fault = fault refl
+job_ran job.NoMemory f input steps text p means is counts fault = tt
 
--- a file's first bytes, one more than the longest text, mean what the file means
-pub text_cut : (text bytes : List ℕ) → text ≡ take 16777217 bytes → module_of bytes ≡ module_of text
-unfolding module_of
-text_cut text bytes e = elim (cases_Bool (nat_le (length bytes) 16777216)) [
-  | inl fits ↦ ap module_of (sym (e ∙ take_all 16777217 bytes (short fits)))
-  | inr larger ↦ rw (larger, long larger) refl
+-- ---- whatever comes of a text, a part of its run was written
+
+-- nothing is a part
+pub idle_part : (f : Flow) (input : List ℕ) (steps : ℕ) (text : List ℕ) → Idle f → WritesText f input steps text
+idle_part f input steps text idle (Err fault) means = idle
+idle_part f input steps text idle (Ok p) means = record {
+  wrote = (0, omega arith, subst (λ (held : Option (List ℕ)). Adds f.held held []) (sym idle.wrote) (adds_nothing f.held));
+  part = rw (idle.counts) refl;
+  rises = rw (idle.counts) (omega arith);
+  within = rw (idle.counts) (omega arith);
+}
+
+okay : Accepted → Result Accepted ModuleFault
+okay p = Ok p
+
+-- what was loaded is all that the text means
+pub ran_part : (f : Flow) (input : List ℕ) (steps : ℕ) (text : List ℕ) (p : Accepted) → ((found : Result Accepted ModuleFault) → Means text found → Ok p ≡ found)
+    → RanPart f (run p input steps) → WritesText f input steps text
+ran_part f input steps text p only part found means = subst (λ (x : Result Accepted ModuleFault). RunsPart f input steps x) (only found means) part
+
+-- ---- a file's first bytes, one more than the longest text, mean what the file means
+
+long_cut : (text bytes : List ℕ) → text_limit < length text → text_limit < length bytes → (found : Result Accepted ModuleFault) → Means text found → Means bytes found
+long_cut text bytes long longer found m = by m.lexed m.lexes m.means
+  where
+    by : (lexed : Result (List Token) LexFault) → Lexes text_limit text lexed → MeansTokens text lexed found → Means bytes found
+    by (Ok tokens) lexes means = absurd (omega (arith, lexes.0, long))
+    by (Err fault) (inl lexes) means = record { lexed = Err fault; lexes = inl (longer, lexes.1); means = means }
+    by (Err fault) (inr lexes) means = absurd (omega (arith, lexes.0, long))
+
+pub means_cut : (text bytes : List ℕ) → text ≡ take 16777217 bytes → (found : Result Accepted ModuleFault)
+    → (Means text found → Means bytes found) × (Means bytes found → Means text found)
+means_cut text bytes e found = elim (cases_Bool (nat_le (length bytes) 16777216)) [
+  | inl fits ↦ (
+    subst (λ (t : List ℕ). Means t found) (same fits),
+    subst (λ (t : List ℕ). Means t found) (sym (same fits)),
+  )
+  | inr larger ↦ (long_cut text bytes (long larger) (longer larger) found, long_cut bytes text (longer larger) (long larger) found)
 ]
   where
-    short : nat_le (length bytes) 16777216 ≡ true → length bytes ≤ 16777217
-    short fits = let le = leb-true (length bytes) 16777216 fits in omega (arith, le)
+    same : nat_le (length bytes) 16777216 ≡ true → text ≡ bytes
+    same fits = let le = leb-true (length bytes) 16777216 fits in e ∙ take_all 16777217 bytes (omega (arith, le))
 
-    long : nat_le (length bytes) 16777216 ≡ false → nat_le (length text) 16777216 ≡ false
-    long larger = lt-leb (length text) 16777216
-        (let more = leb-false (length bytes) 16777216 larger in rw (e, length-take-le 16777217 bytes (omega (arith, more))) (lit< tt))
+    longer : nat_le (length bytes) 16777216 ≡ false → text_limit < length bytes
+    longer larger = leb-false (length bytes) 16777216 larger
 
-pub program_cut : (text bytes : List ℕ) → text ≡ take 16777217 bytes → program_of bytes ≡ program_of text
-unfolding program_of
-program_cut text bytes e = ap accepted_of (text_cut text bytes e)
+    long : nat_le (length bytes) 16777216 ≡ false → text_limit < length text
+    long larger = let more = leb-false (length bytes) 16777216 larger in rw (e, length-take-le 16777217 bytes (omega (arith, more))) (lit< tt)
 
 -- ---- where a file tells what it holds, and the text is its first bytes
 
 abbrev pub Holds : Option (List ℕ) → List ℕ → Type 0
 Holds contents text = IfSome contents (λ bytes. text ≡ take 16777217 bytes)
 
-pub told_program : (P : Result Accepted ModuleFault → Type 0) (contents : Option (List ℕ)) (text : List ℕ) → Holds contents text → P (program_of text) → IfSome contents (λ t. P (program_of t))
-told_program P None text holds p = tt
-told_program P (Some bytes) text holds p = subst P (sym (program_cut text bytes holds)) p
+-- a fact of what a text means is one of the whole file
+pub told_text : (P : List ℕ → Type 0) (contents : Option (List ℕ)) (text : List ℕ) → Holds contents text
+    → ((bytes : List ℕ) → text ≡ take 16777217 bytes → P text → P bytes) → P text → IfSome contents P
+told_text P None text holds whole p = tt
+told_text P (Some bytes) text holds whole p = whole bytes holds p
 
 -- ---- the outcome of a text is that of its file
 
--- a text that ran to an end is a program
-pub ran_exited : (c : ℕ) (f : Flow) (input : List ℕ) (steps : ℕ) (found : Result Accepted ModuleFault) → RunsText (outcome.Exited c) f input steps found
-    → OnProgram found (λ p. RanWhole (outcome.Exited c) f (run p input steps))
-ran_exited c f input steps (Err why) r = r
-ran_exited c f input steps (Ok p) r = r
+abbrev pub OnRun : (Accepted → Type 0) → List ℕ → Type 0
+OnRun P text = (p : Accepted) × Means text (Ok p) × P p
 
-pub ran_trapped : (t : Trap) (f : Flow) (input : List ℕ) (steps : ℕ) (found : Result Accepted ModuleFault) → RunsText (outcome.Trapped t) f input steps found
-    → OnProgram found (λ p. RanWhole (outcome.Trapped t) f (run p input steps))
-ran_trapped t f input steps (Err why) r = r
-ran_trapped t f input steps (Ok p) r = r
-
-pub ran_unfinished : (f : Flow) (input : List ℕ) (steps : ℕ) (found : Result Accepted ModuleFault) → RunsText outcome.Unfinished f input steps found
-    → OnProgram found (λ p. RanWhole outcome.Unfinished f (run p input steps))
-ran_unfinished f input steps (Err why) r = r
-ran_unfinished f input steps (Ok p) r = r
-
-pub refused_text : (fault : ModuleFault) (f : Flow) (input : List ℕ) (steps : ℕ) (found : Result Accepted ModuleFault) → RunsText (outcome.BadModule fault) f input steps found
-    → found ≡ Err fault
-refused_text fault f input steps (Err why) r = ap (λ (w : ModuleFault). Err w) r
-refused_text fault f input steps (Ok p) r = absurd r
-
-pub never_usage : (f : Flow) (input : List ℕ) (steps : ℕ) (found : Result Accepted ModuleFault) → RunsText outcome.Usage f input steps found → ⊥
-never_usage f input steps (Err why) r = r
-never_usage f input steps (Ok p) r = r
-
-pub never_file : (name : List ℕ) (f : Flow) (input : List ℕ) (steps : ℕ) (found : Result Accepted ModuleFault) → RunsText (outcome.FileFault name) f input steps found → ⊥
-never_file name f input steps (Err why) r = r
-never_file name f input steps (Ok p) r = r
-
-pub wrote_fault : (f : Flow) (input : List ℕ) (steps : ℕ) (found : Result Accepted ModuleFault) → RunsText outcome.WriteFault f input steps found → Rose f.outs f.outs'
-wrote_fault f input steps (Err why) r = absurd r
-wrote_fault f input steps (Ok p) r = r
+run_whole : (P : Accepted → Type 0) (text bytes : List ℕ) → text ≡ take 16777217 bytes → OnRun P text → OnRun P bytes
+run_whole P text bytes e x = (x.0, (means_cut text bytes e (Ok x.0)).0 x.1, x.2)
 
 pub says_text : (o : Outcome) (a : Around) (asked : Asked) (text : List ℕ) → a.job ≡ Some asked → Holds (a.contents asked.file) text
-    → RunsText o a.flow (input_of a.input) asked.steps (program_of text) → Says o a
+    → RunsText o a.flow (input_of a.input) asked.steps text → Says o a
 says_text (outcome.Exited c) a asked text job holds r =
-    rw job (told_program (λ found. OnProgram found (λ p. RanWhole (outcome.Exited c) a.flow (run p (input_of a.input) asked.steps))) (a.contents asked.file) text holds
-    (ran_exited c a.flow (input_of a.input) asked.steps (program_of text) r))
+    let P : Accepted → Type 0 = λ p. RanWhole (outcome.Exited c) a.flow (run p (input_of a.input) asked.steps) in
+    rw job (told_text (OnRun P) (a.contents asked.file) text holds (run_whole P text) r)
 says_text (outcome.Trapped t) a asked text job holds r =
-    rw job (told_program (λ found. OnProgram found (λ p. RanWhole (outcome.Trapped t) a.flow (run p (input_of a.input) asked.steps))) (a.contents asked.file) text holds
-    (ran_trapped t a.flow (input_of a.input) asked.steps (program_of text) r))
+    let P : Accepted → Type 0 = λ p. RanWhole (outcome.Trapped t) a.flow (run p (input_of a.input) asked.steps) in
+    rw job (told_text (OnRun P) (a.contents asked.file) text holds (run_whole P text) r)
 says_text outcome.Unfinished a asked text job holds r =
-    rw job (told_program (λ found. OnProgram found (λ p. RanWhole outcome.Unfinished a.flow (run p (input_of a.input) asked.steps))) (a.contents asked.file) text holds
-    (ran_unfinished a.flow (input_of a.input) asked.steps (program_of text) r))
+    let P : Accepted → Type 0 = λ p. RanWhole outcome.Unfinished a.flow (run p (input_of a.input) asked.steps) in
+    rw job (told_text (OnRun P) (a.contents asked.file) text holds (run_whole P text) r)
 says_text outcome.NoMemory a asked text job holds r = tt
-says_text outcome.Usage a asked text job holds r = absurd (never_usage a.flow (input_of a.input) asked.steps (program_of text) r)
-says_text (outcome.FileFault name) a asked text job holds r = absurd (never_file name a.flow (input_of a.input) asked.steps (program_of text) r)
+says_text outcome.Usage a asked text job holds r = absurd r
+says_text (outcome.FileFault name) a asked text job holds r = absurd r
 says_text (outcome.BadModule fault) a asked text job holds r =
-    rw job (told_program (λ found. found ≡ Err fault) (a.contents asked.file) text holds (refused_text fault a.flow (input_of a.input) asked.steps (program_of text) r))
-says_text outcome.WriteFault a asked text job holds r = rw job (wrote_fault a.flow (input_of a.input) asked.steps (program_of text) r)
+    rw job (told_text (λ t. Means t (Err fault)) (a.contents asked.file) text holds (λ bytes e. (means_cut text bytes e (Err fault)).0) r)
+says_text outcome.WriteFault a asked text job holds r = rw job r
 
 pub part_text : (a : Around) (asked : Asked) (job : Option Asked) (text : List ℕ) → job ≡ Some asked → Holds (a.contents asked.file) text
-    → RunsPart a.flow (input_of a.input) asked.steps (program_of text) → WritesPart a job
+    → WritesText a.flow (input_of a.input) asked.steps text → WritesPart a job
 part_text a asked job text e holds r =
-    rw e (told_program (λ found. RunsPart a.flow (input_of a.input) asked.steps found) (a.contents asked.file) text holds r)
+    rw e (told_text (WritesText a.flow (input_of a.input) asked.steps) (a.contents asked.file) text holds (λ bytes e r found means. r found ((means_cut text bytes e found).1 means)) r)

@@ -1,3 +1,4 @@
+pub mod Beyond
 pub mod Programs
 pub mod Jobs
 pub mod Words

@@ -4,13 +4,12 @@ use Rattle.no_ports.specs.Meanings.{Rose, Adds, AddsPrefix}
 use Rattle.no_ir.specs.declared.ending.End.{End}
 use Rattle.no_ir.specs.declared.ending.End.TheVariants as end
 use Rattle.no_ir.specs.Ending.{trap_number, trap_name}
-use Rattle.no_layout.specs.declared.fault.LayoutFault.{LayoutFault}
 use Rattle.no_layout.specs.declared.fault.LayoutKind.{LayoutKind}
 use Rattle.no_layout.specs.declared.fault.LayoutKind.TheVariants as layout
 use Rattle.no_machine.specs.Counted.{Counted}
 use Rattle.no_semantics.specs.Accepted.{Accepted}
 use Rattle.no_semantics.specs.Run.{Ran, run}
-use Rattle.no_app.specs.Programs.{program_of}
+use Rattle.no_app.specs.Programs.{Means}
 use Rattle.no_app.specs.Words.{Asked}
 use Rattle.no_app.specs.Jobs.{input_of}
 use Rattle.no_app.specs.declared.job.JobEnd.{JobEnd}
@@ -19,8 +18,10 @@ use Rattle.no_app.specs.declared.outcome.Outcome.{Outcome}
 use Rattle.no_app.specs.declared.outcome.Outcome.TheVariants as outcome
 use Rattle.no_app.specs.declared.outcome.ModuleFault.{ModuleFault}
 use Rattle.no_app.specs.declared.outcome.ModuleFault.TheVariants as modules
-use Rattle.no_app.specs.declared.outcome.ReadFault.{ReadFault}
-use Rattle.no_app.specs.declared.outcome.ReadFault.TheVariants as reads
+use Rattle.no_lex.specs.Faults.{kind_number}
+use Rattle.no_read.specs.Faults.{fault_number}
+use Rattle.no_read.specs.declared.fault.ReadFault.{ReadFault}
+use Rattle.no_read.specs.declared.fault.ReadFault.TheVariants as reads
 
 -- ---- statuses and lines
 
@@ -34,20 +35,25 @@ status_of (outcome.FileFault name) = 121
 status_of (outcome.BadModule fault) = 122
 status_of outcome.WriteFault = 118
 
-abbrev pub read_words : ReadFault → List ℕ
-read_words (reads.LeftOut at word) = codes "read 2 at " ++ decimal at
+-- the kind of a fault, and its place in bytes
+abbrev pub place_words : ℕ → ℕ → List ℕ
+place_words kind at = decimal kind ++ codes " at " ++ decimal at
+
+abbrev pub place_of : ReadFault → ℕ
+place_of (reads.Syntax at) = at
+place_of (reads.LeftOut at word) = at
+place_of (reads.Number at) = at
+place_of (reads.Circle at) = at
 
 abbrev pub layout_number : LayoutKind → ℕ
 layout_number layout.NoOrder = 1
 layout_number layout.BadWidth = 2
 layout_number layout.BadSpec = 3
 
-abbrev pub layout_words : LayoutFault → List ℕ
-layout_words fault = codes "layout " ++ decimal (layout_number fault.kind) ++ codes " at " ++ decimal fault.at
-
 abbrev pub module_words : ModuleFault → List ℕ
-module_words (modules.Read fault) = read_words fault
-module_words (modules.Layout fault) = layout_words fault
+module_words (modules.Lex fault) = codes "lex " ++ place_words (kind_number fault.kind) fault.at
+module_words (modules.Read fault) = codes "read " ++ place_words (fault_number fault) (place_of fault)
+module_words (modules.Layout fault) = codes "layout " ++ place_words (layout_number fault.kind) fault.at
 
 -- what stands between `nativeoff: ` and the line feed
 abbrev pub words_of : Outcome → List ℕ
@@ -102,9 +108,8 @@ OnJob None P = ⊥
 OnJob (Some asked) P = P asked
 
 -- a fact of the program that a text means, which it has to mean
-abbrev pub OnProgram : Result Accepted ModuleFault → (Accepted → Type 0) → Type 0
-OnProgram (Err fault) P = ⊥
-OnProgram (Ok a) P = P a
+abbrev pub OnProgram : List ℕ → (Accepted → Type 0) → Type 0
+OnProgram text P = (p : Accepted) × Means text (Ok p) × P p
 
 -- the run ended so, its output was written, and its instructions were counted
 pub record RanWhole (o : Outcome) (f : Flow) (ran : Ran) : Type 0 where
@@ -114,7 +119,7 @@ pub record RanWhole (o : Outcome) (f : Flow) (ran : Ran) : Type 0 where
 
 -- the run of the job's file: where files tell what they hold, it is a program, and it ran so
 abbrev pub RunsTo : Outcome → Around → Type 0
-RunsTo o a = OnJob a.job (λ asked. IfSome (a.contents asked.file) (λ text. OnProgram (program_of text) (λ p. RanWhole o a.flow (run p (input_of a.input) asked.steps))))
+RunsTo o a = OnJob a.job (λ asked. IfSome (a.contents asked.file) (λ text. OnProgram text (λ p. RanWhole o a.flow (run p (input_of a.input) asked.steps))))
 
 -- what each outcome says; the cases exclude each other, so each comes exactly where it says, want of memory aside
 abbrev pub Says : Outcome → Around → Type 0
@@ -124,7 +129,7 @@ Says outcome.Unfinished a = RunsTo outcome.Unfinished a
 Says outcome.NoMemory a = Unit {0}
 Says outcome.Usage a = a.job ≡ None
 Says (outcome.FileFault name) a = OnJob a.job (λ asked. (name ≡ asked.file) × Rose a.files a.files')
-Says (outcome.BadModule fault) a = OnJob a.job (λ asked. IfSome (a.contents asked.file) (λ text. program_of text ≡ Err fault))
+Says (outcome.BadModule fault) a = OnJob a.job (λ asked. IfSome (a.contents asked.file) (λ text. Means text (Err fault)))
 Says outcome.WriteFault a = OnJob a.job (λ asked. Rose a.flow.outs a.flow.outs')
 
 -- nothing was written and nothing counted
@@ -139,38 +144,31 @@ pub record RanPart (f : Flow) (ran : Ran) : Type 0 where
   pub rises : f.counted.source ≤ f.counted'.source
   pub within : f.counted'.source ≤ f.counted.source + ran.count
 
--- of the program that a text means, if it means one
+-- of the program that a text means, if it means one; otherwise nothing was written and nothing counted
 abbrev pub RunsPart : Flow → List ℕ → ℕ → Result Accepted ModuleFault → Type 0
 RunsPart f input steps (Err fault) = Idle f
 RunsPart f input steps (Ok a) = RanPart f (run a input steps)
 
+abbrev pub WritesText : Flow → List ℕ → ℕ → List ℕ → Type 0
+WritesText f input steps text = (found : Result Accepted ModuleFault) → Means text found → RunsPart f input steps found
+
 -- whatever the outcome: without a job or a program nothing is written, and otherwise a prefix of the run's output
 abbrev pub WritesPart : Around → Option Asked → Type 0
 WritesPart a None = Idle a.flow
-WritesPart a (Some asked) = IfSome (a.contents asked.file) (λ text. RunsPart a.flow (input_of a.input) asked.steps (program_of text))
+WritesPart a (Some asked) = IfSome (a.contents asked.file) (λ text. WritesText a.flow (input_of a.input) asked.steps text)
 
 -- ---- the same for a text that was read
 
--- the outcome of a run
-abbrev pub RanAs : Outcome → Flow → Ran → Type 0
-RanAs (outcome.Exited c) f ran = RanWhole (outcome.Exited c) f ran
-RanAs (outcome.Trapped t) f ran = RanWhole (outcome.Trapped t) f ran
-RanAs outcome.Unfinished f ran = RanWhole outcome.Unfinished f ran
-RanAs outcome.NoMemory f ran = Unit {0}
-RanAs outcome.Usage f ran = ⊥
-RanAs (outcome.FileFault name) f ran = ⊥
-RanAs (outcome.BadModule fault) f ran = ⊥
-RanAs outcome.WriteFault f ran = Rose f.outs f.outs'
-
--- the outcome of a text that is no program
-abbrev pub IsRefused : ModuleFault → Outcome → Type 0
-IsRefused why (outcome.BadModule fault) = why ≡ fault
-IsRefused why outcome.NoMemory = Unit {0}
-IsRefused why _ = ⊥
-
-abbrev pub RunsText : Outcome → Flow → List ℕ → ℕ → Result Accepted ModuleFault → Type 0
-RunsText o f input steps (Err fault) = IsRefused fault o
-RunsText o f input steps (Ok a) = RanAs o f (run a input steps)
+-- what each outcome says of a text and a run of it
+abbrev pub RunsText : Outcome → Flow → List ℕ → ℕ → List ℕ → Type 0
+RunsText (outcome.Exited c) f input steps text = OnProgram text (λ p. RanWhole (outcome.Exited c) f (run p input steps))
+RunsText (outcome.Trapped t) f input steps text = OnProgram text (λ p. RanWhole (outcome.Trapped t) f (run p input steps))
+RunsText outcome.Unfinished f input steps text = OnProgram text (λ p. RanWhole outcome.Unfinished f (run p input steps))
+RunsText outcome.NoMemory f input steps text = Unit {0}
+RunsText outcome.Usage f input steps text = ⊥
+RunsText (outcome.FileFault name) f input steps text = ⊥
+RunsText (outcome.BadModule fault) f input steps text = Means text (Err fault)
+RunsText outcome.WriteFault f input steps text = Rose f.outs f.outs'
 
 -- the outcome with the stream of the last line beside it, of which these are the counts of faults
 abbrev pub Concludes : Outcome → Around → ℕ → ℕ → Type 0

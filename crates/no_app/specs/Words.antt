@@ -1,7 +1,17 @@
 -- The words of the command line: which lists of words ask for a job.
-use Rattle.std.specs.Prelude.{ℕ, Bool, true, false, nat_le, if◌then◌else◌, List, [], ◌∷◌, length, take, drop, Option, Some, None, unwrap_or, codes, bytes_eq}
-use Rattle.no_lines.specs.Pieces.{◌>>=◌}
-use Rattle.no_lines.specs.Values.{number_of}
+use Rattle.std.specs.Prelude.{◌≡◌, ℕ, Bool, true, false, nat_le, if◌then◌else◌, List, [], ◌∷◌, length, take, drop, Option, Some, None, unwrap_or, codes, bytes_eq}
+use Rattle.no_grammar.specs.Numbers.{decimal}
+
+infixl 10 ◌>>=◌
+-- a step that may refuse, and then the next
+abbrev pub ◌>>=◌ : {A B : Type 0} → Option A → (A → Option B) → Option B
+(Some x) >>= f = f x
+None >>= f = None
+
+-- the answer, seen by view, is what the definition reads
+abbrev pub Finds : {X Y : Type 0} → (X → Y) → Option X → Option Y → Type 0
+Finds view (Some x) read = read ≡ Some (view x)
+Finds view None read = read ≡ None
 
 -- a file, and a budget of instructions
 pub record Asked : Type 0 where
@@ -10,6 +20,11 @@ pub record Asked : Type 0 where
 
 abbrev pub begins : List ℕ → List ℕ → Bool
 begins prefix word = bytes_eq (take (length prefix) word) prefix
+
+-- the number that digits spell, one at least, where it is at most so much
+abbrev pub number_of : ℕ → List ℕ → Option ℕ
+number_of most [] = None
+number_of most (c ∷ cs) = decimal most (c ∷ cs)
 
 -- a number of 1 to 20 digits, at most 2 ^ 32
 abbrev pub budget_of : List ℕ → Option ℕ

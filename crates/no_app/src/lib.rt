@@ -1,6 +1,7 @@
 //! The commands of the program, each a job over the outside world, and the top call.
 #![tactic(auto)]
 
+mod beyond;
 mod job;
 mod loading;
 mod outcome;
@@ -10,7 +11,7 @@ mod top;
 mod words;
 
 pub use job::{JobEnd, local_job};
-pub use outcome::{ModuleFault, Outcome, ReadFault, status};
+pub use outcome::{ModuleFault, Outcome, status};
 pub use report::Report;
 pub use top::command;
 

@@ -3,17 +3,16 @@ ghost use Rattle.no_app.specs.Outcomes.{status_of};
 
 use no_ir::{Bytes, Trap};
 use no_layout::LayoutFault;
+use no_lex::LexFault;
+use no_read::ReadFault;
 
-/// What is wrong with a text.
-#[derive(Debug, Drop)]
-pub enum ReadFault {
-    /// A form that is left out: where it stands, and its first word. Nothing is said of a place or a word yet.
-    LeftOut { at: u32, word: Bytes },
-}
-
-/// What is wrong with a module's file.
+/// What is wrong with a module's file: the first that stands here.
 #[derive(Debug, Drop)]
 pub enum ModuleFault {
+    /// The text does not part into tokens.
+    Lex(LexFault),
+    /// The tokens read to no module. `LeftOut` at 0 is a module that no machine runs yet, with the word of the first
+    /// instruction that is the cause, or no word where none is.
     Read(ReadFault),
     /// The data layout string is none.
     Layout(LayoutFault),

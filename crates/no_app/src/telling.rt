@@ -1,11 +1,12 @@
 ghost use Rattle.std.specs.Prelude.{◌≡◌, ℕ, ◌≤◌, ◌++◌, ◌⊎◌, OnOk, IfOk, decimal};
 ghost use Rattle.no_ports.specs.Meanings.{Rose};
-ghost use Rattle.no_app.specs.Outcomes.{line_of, words_of, module_words, read_words, layout_words, layout_number, Tells, Becomes};
+ghost use Rattle.no_app.specs.Outcomes.{line_of, words_of, module_words, place_of, place_words, layout_number, Tells, Becomes};
 
-use crate::outcome::{ModuleFault, Outcome, ReadFault};
+use crate::outcome::{ModuleFault, Outcome};
 use no_ir::{NoMemory, Trap};
-use no_layout::{LayoutFault, LayoutKind};
+use no_layout::LayoutKind;
 use no_ports::{GaveAll, Sink, give_all};
+use no_read::ReadFault;
 use std::alloc::Global;
 
 /// Adds a number in decimal digits.
@@ -33,16 +34,44 @@ fn put_fault(out: &mut Vec<u8>, alloc: Global, fault: &ModuleFault) -> Result<()
     ensures { OnOk result (out.new.items ≡ out.old.items ++ module_words fault.now) }
 {
     match fault {
-        ModuleFault::Read(ReadFault::LeftOut { at, .. }) => {
-            out.extend_from_slice(b"read 2 at ")?;
-            put_number(out, alloc, u64::from(*at))
+        ModuleFault::Lex(fault) => {
+            out.extend_from_slice(b"lex ")?;
+            put_place(out, alloc, fault.kind.number(), fault.at)
         }
-        ModuleFault::Layout(fault) => put_layout_fault(out, alloc, fault),
+        ModuleFault::Read(fault) => {
+            out.extend_from_slice(b"read ")?;
+            put_place(out, alloc, fault.number(), place_of(fault))
+        }
+        ModuleFault::Layout(fault) => {
+            out.extend_from_slice(b"layout ")?;
+            put_place(out, alloc, layout_number(fault.kind), fault.at)
+        }
+    }
+}
+
+/// Adds the number of a kind of fault, and its place.
+fn put_place(out: &mut Vec<u8>, alloc: Global, kind: u8, at: u32) -> Result<(), NoMemory>
+    ensures { OnOk result (out.new.items ≡ out.old.items ++ place_words kind at) }
+{
+    put_number(out, alloc, u64::from(kind))?;
+    out.extend_from_slice(b" at ")?;
+    put_number(out, alloc, u64::from(at))
+}
+
+/// The place of a fault, in bytes.
+fn place_of(fault: &ReadFault) -> u32
+    ensures { result ≡ place_of fault.now }
+{
+    match fault {
+        ReadFault::Syntax { at } => *at,
+        ReadFault::LeftOut { at, .. } => *at,
+        ReadFault::Number { at } => *at,
+        ReadFault::Circle { at } => *at,
     }
 }
 
 /// The number of a kind of layout fault.
-fn layout_number(kind: LayoutKind) -> u64
+fn layout_number(kind: LayoutKind) -> u8
     ensures { result ≡ layout_number kind }
 {
     match kind {
@@ -50,16 +79,6 @@ fn layout_number(kind: LayoutKind) -> u64
         LayoutKind::BadWidth => 2,
         LayoutKind::BadSpec => 3,
     }
-}
-
-/// Adds the words of a layout's fault.
-fn put_layout_fault(out: &mut Vec<u8>, alloc: Global, fault: &LayoutFault) -> Result<(), NoMemory>
-    ensures { OnOk result (out.new.items ≡ out.old.items ++ layout_words fault.now) }
-{
-    out.extend_from_slice(b"layout ")?;
-    put_number(out, alloc, layout_number(fault.kind))?;
-    out.extend_from_slice(b" at ")?;
-    put_number(out, alloc, u64::from(fault.at))
 }
 
 /// Adds the words of an outcome.

@@ -1,16 +1,14 @@
 ghost use Rattle.std.specs.Prelude.{◌≡◌, ◌≤◌, ◌^◌, ◌⊎◌, ℕ, List, None, Some};
 ghost use Rattle.no_app.specs.Jobs.{input_of};
-ghost use Rattle.no_app.specs.Programs.{program_of};
 ghost use Rattle.no_app.specs.Words.{asked_of};
-ghost use Rattle.no_app.specs.Outcomes.{Says, WritesPart, Concludes, Tells, RunsText, RunsPart, outcome_of_job};
+ghost use Rattle.no_app.specs.Outcomes.{Says, WritesPart, Concludes, Tells, RunsText, WritesText, outcome_of_job};
 
 use crate::job::{JobEnd, local_job};
-use crate::loading::{Refused, load};
+use crate::loading::{Refused, TEXT_LIMIT, load};
 use crate::outcome::Outcome;
 use crate::telling::tell;
 use crate::words::read_words;
 use no_ir::{Bytes, End, Text};
-use no_lines::TEXT_LIMIT;
 use no_machine::Steps;
 use no_ports::{FileAnswer, Files, Sink, Source, Spawner, Wire};
 use std::alloc::Global;
@@ -41,6 +39,7 @@ fn job_outcome(end: JobEnd) -> Outcome
 }
 
 /// Reads a program's text and runs it on the device alone.
+#[tactic(auto, using(crate::proofs::Outcomes::idle_part))]
 fn run_text<I: Source, O: Sink, L: Ledger>(
     alloc: Global,
     text: &[u8],
@@ -50,8 +49,8 @@ fn run_text<I: Source, O: Sink, L: Ledger>(
     steps: &mut Steps<L>,
 ) -> Outcome
     requires { budget ≤ 2 ^ 32 }
-    ensures says { RunsText result (record { held = O.held out.old; held' = O.held out.new; counted = steps.old; counted' = steps.new; outs = O.faults out.old; outs' = O.faults out.new }) (input_of (I.left input.old)) budget (program_of text.now) }
-    ensures part { RunsPart (record { held = O.held out.old; held' = O.held out.new; counted = steps.old; counted' = steps.new; outs = O.faults out.old; outs' = O.faults out.new }) (input_of (I.left input.old)) budget (program_of text.now) }
+    ensures says { RunsText result (record { held = O.held out.old; held' = O.held out.new; counted = steps.old; counted' = steps.new; outs = O.faults out.old; outs' = O.faults out.new }) (input_of (I.left input.old)) budget text.now }
+    ensures part { WritesText (record { held = O.held out.old; held' = O.held out.new; counted = steps.old; counted' = steps.new; outs = O.faults out.old; outs' = O.faults out.new }) (input_of (I.left input.old)) budget text.now }
     ensures untouched { input.new ≡ input.old }
 {
     match load(alloc, text) {

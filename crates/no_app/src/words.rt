@@ -1,11 +1,10 @@
 ghost use Rattle.std.specs.Prelude.{◌≡◌, ◌≤◌, ◌^◌, Some, None, IfSome, false};
 ghost use Rattle.std.specs.Option.{option_copied};
-ghost use Rattle.no_lines.specs.Answers.{Finds};
 ghost use Rattle.no_app.specs.Requests.{request_of, heard_of};
-ghost use Rattle.no_app.specs.Words.{with_budget, budget_of, hear_value, hear_option, hear_word, hear, scanned, asked_of, finished};
+ghost use Rattle.no_app.specs.Words.{Finds, number_of, with_budget, budget_of, hear_value, hear_option, hear_word, hear, scanned, asked_of, finished};
 
+use no_grammar::decimal;
 use no_ir::Text;
-use no_lines::number;
 use std::convert::AsStr;
 
 /// What the words ask for: a file, and a budget of instructions.
@@ -26,6 +25,18 @@ struct Heard<'a> {
 
 /// The budget where no word states one.
 const DEFAULT_BUDGET: u64 = 1_000_000_000;
+
+/// The number that digits spell, one at least, where it is at most `most`.
+#[tactic(auto, using(crate::proofs::Numbers::decimal_within))]
+fn number(most: u64, text: &[u8]) -> Option<u64>
+    ensures value { result ≡ number_of most text.now }
+    ensures within { IfSome result (λ n. n ≤ most) }
+{
+    match text {
+        [] => None,
+        _ => decimal(most, text),
+    }
+}
 
 /// A number of 1 to 20 digits, at most 2 to the 32nd.
 fn budget(word: &str) -> Option<u64>

@@ -1,4 +1,0 @@
-pub mod Numbers
-pub mod Cutting
-pub mod Places
-pub mod Bodies
