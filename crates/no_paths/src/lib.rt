@@ -16,3 +16,6 @@ mod verdict;
 mod words;
 
 pub use verdict::assigned;
+
+#[cfg(test)]
+mod tests;
