@@ -61,11 +61,7 @@ fn code(alloc: Global, number: usize, lines: &[(usize, Line)]) -> Result<List<In
     Ok(instrs)
 }
 
-fn blocks(
-    alloc: Global,
-    labels: &[u32],
-    lines: &[(usize, Line)],
-) -> Result<List<Block>, NoMemory> {
+fn blocks(alloc: Global, labels: &[u32], lines: &[(usize, Line)]) -> Result<List<Block>, NoMemory> {
     let mut blocks = List::new(alloc);
     for (number, label) in labels.iter().enumerate() {
         let instrs = code(alloc, number, lines)?;
