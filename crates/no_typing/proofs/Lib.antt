@@ -1,0 +1,7 @@
+pub mod Gathered
+pub mod Meets
+pub mod Numbers
+pub mod Tables
+pub mod Differ
+pub mod Marks
+pub mod Firsts
