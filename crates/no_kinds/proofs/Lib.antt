@@ -1,0 +1,8 @@
+mod Ends
+mod Known
+mod Members
+mod Edges
+mod Named
+mod Found
+mod Firsts
+mod Indices

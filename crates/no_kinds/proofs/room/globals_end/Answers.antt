@@ -1,0 +1,10 @@
+use Rattle.std.proofs.Common.{ℕ, ◌<◌, true, sym, subst}
+use Rattle.no_layout.specs.Memory.{globals_limit}
+use Rattle.no_semantics.specs.Image.{end_of}
+use Rattle.no_kinds.proofs.Ends.{late}
+use Rattle.no_kinds.proofs.room.globals_end.Goals as goal
+
+pub returns-in-None : goal.returns-in-None
+returns-in-None c =
+    sym (late c.args.layout.now c.args.sizes.now c.args.globals.now
+    (subst (λ (start : ℕ). globals_limit < end_of c.args.layout.now c.args.sizes.now true start c.args.globals.now) c.from.ensures c.in-None.ensures))

@@ -1,0 +1,13 @@
+pub mod Finding
+pub mod Parts
+pub mod Names
+pub mod Twice
+pub mod Unknown
+pub mod Ending
+pub mod Same
+pub mod Phis
+pub mod Edges
+pub mod Marks
+pub mod Entry
+pub mod Room
+pub mod Large
