@@ -1,0 +1,43 @@
+ghost use Rattle.std.specs.Prelude.{◌≡◌, Ok, true};
+ghost use Rattle.no_layout.specs.Text.{is_formed, layout_of};
+ghost use Rattle.no_verify.specs.Verdict.{IsVerdict};
+
+use crate::judge::{fault_of, later_fault};
+use crate::{Sound, VerifyError, VerifyKind};
+use no_ir::{Module, Role};
+use no_kinds::large_fault;
+use no_layout::Layout;
+use std::alloc::Global;
+
+/// Judges a module in its role: the layout first, then the kinds of faults in the order BadType, Twice, UnknownName,
+/// UnknownExternal, TypeMismatch, NoTerminator, PhiEdges, NotAssigned, BadMark, ImageTooLarge, NoMain. Within a kind the
+/// lowest function, block and place is named.
+pub fn verify(alloc: Global, program: Module, role: Role) -> Result<Sound, VerifyError>
+    ensures { IsVerdict program role result }
+{
+    if program.layout.len() > 0xFFFF_FFFF {
+        return Err(VerifyError::NoMemory);
+    }
+    match Layout::read(program.layout.as_slice()) {
+        Err(fault) => Err(VerifyError::Layout(fault)),
+        Ok(layout) => under(alloc, program, layout, role),
+    }
+}
+
+/// Judges a module under the layout that its string states.
+fn under(alloc: Global, program: Module, layout: Layout, role: Role) -> Result<Sound, VerifyError>
+    requires layout { layout_of program.layout ≡ Ok layout }
+    requires formed { is_formed layout ≡ true }
+    ensures { IsVerdict program role result }
+{
+    let sizes = match large_fault(alloc, &layout, &program) {
+        Err(_) => return Err(VerifyError::NoMemory),
+        Ok(Err(place)) => return Err(VerifyError::Fault(fault_of(VerifyKind::BadType, place))),
+        Ok(Ok(sizes)) => sizes,
+    };
+    match later_fault(alloc, &layout, &sizes, &program, role) {
+        Err(_) => Err(VerifyError::NoMemory),
+        Ok(Some(fault)) => Err(VerifyError::Fault(fault)),
+        Ok(None) => Ok(Sound::of(program, layout, sizes, role)),
+    }
+}
