@@ -2,8 +2,8 @@
 # How long the program takes to read and judge modules of many blocks, registers, edges and names, and modules that are made
 # to be slow to judge. Outside the gate. The figures stand in docs/GATE.md.
 #
-# Goal: each in no more steps than instructions, and blocks times registers over 64. `ladder` is made so that sets shrink one
-# register at a time, in front of a long chain; twice the chain takes twice the time, and so does twice the registers.
+# Goal: each in no more steps than instructions, and blocks times registers over 64. The ladders are made to miss it: there sets
+# shrink one register at a time in front of a long chain, so its blocks are looked at 64 times for each 64 registers.
 # The program is $NATIVEOFF, or the one that was built here. No module is run: the machine of today does none of them.
 # Words: the names of modules, to judge only these (without any: all). KEEP=FOLDER keeps the texts.
 set -eu
@@ -53,10 +53,13 @@ def registers(count):
 
 
 def ladder(steps, length):
-    """From each step of a ladder, which assigns a register each, one may go to a chain whose end needs one of each 64."""
-    rungs = "".join(f"x{k}: %r{k} = add i32 1, 1 br i1 true, label %d{k}, label %{f'x{k + 1}' if k + 1 < steps else f'd{k}'}\nd{k}: br label %c0\n" for k in range(steps))
+    """From each step of a ladder, which assigns a register each, one may go to a chain whose end needs one of each 64. The ways
+    from the highest steps come first in the text, so the chain learns of one register less at a time. Some paths miss registers."""
+    rungs = "".join(f"x{k}: %r{k} = add i32 1, 1 br i1 true, label %d{k}, label %{f'x{k + 1}' if k + 1 < steps else f'd{k}'}\n" for k in range(steps))
+    ways = [f"d{k}: br label %c0\n" for k in reversed(range(steps))]
     blocks = "".join(f"c{k}: br label %c{k + 1}\n" for k in range(length))
-    return main("e: br label %x0\n" + rungs + blocks + f"c{length}:\n" + "".join(f"%s{k} = add i32 %r{k}, 1\n" for k in range(0, steps, 64)) + "ret i32 0\n")
+    needs = f"c{length}:\n" + "".join(f"%s{k} = add i32 %r{k}, 1\n" for k in range(0, steps, 64)) + "ret i32 0\n"
+    return main("e: br label %x0\n" + rungs + ways[0] + blocks + needs + "".join(ways[1:]))
 
 
 def switch(count):

@@ -63,24 +63,47 @@ fn function(
     })
 }
 
-fn instr(op: Op, inserted: bool) -> Instr {
-    Instr {
+fn keep(instrs: &mut List<Instr>, op: Op, inserted: bool) -> Result<(), NoMemory> {
+    instrs.push(Instr {
         result: None,
         inserted,
         op,
-    }
+    })?;
+    Ok(())
 }
 
-/// A block of a store, this instruction, and a return.
-fn block(alloc: Global, op: Op, inserted: bool) -> Result<List<Block>, NoMemory> {
+fn storing_zero() -> Op {
+    Op::Store(false, Ty::Int(8), number(0), Operand::Const(Const::Zero))
+}
+
+/// A store, the instruction that is judged, and a return.
+fn code(alloc: Global, part: Part) -> Result<List<Instr>, NoMemory> {
     let mut instrs = List::new(alloc);
-    let null = Operand::Const(Const::Zero);
-    instrs.push(instr(Op::Store(false, Ty::Int(8), number(0), null), false))?;
-    instrs.push(instr(op, inserted))?;
-    instrs.push(instr(Op::Ret(None), false))?;
+    keep(&mut instrs, storing_zero(), false)?;
+    keep(&mut instrs, operation(alloc, part.op), part.inserted)?;
+    keep(&mut instrs, Op::Ret(None), false)?;
+    Ok(instrs)
+}
+
+fn blocks(alloc: Global, part: Part) -> Result<List<Block>, NoMemory> {
+    let instrs = code(alloc, part)?;
     let mut blocks = List::new(alloc);
     blocks.push(Block { label: 0, instrs })?;
     Ok(blocks)
+}
+
+fn defined(alloc: Global, part: Part) -> Result<Function, NoMemory> {
+    let blocks = blocks(alloc, part)?;
+    let mut defined = function(alloc, "f0", 16, blocks)?;
+    defined.labels.push(Bytes::new(alloc))?;
+    Ok(defined)
+}
+
+fn functions(alloc: Global, part: Part) -> Result<List<Function>, NoMemory> {
+    let mut functions = List::new(alloc);
+    functions.push(defined(alloc, part)?)?;
+    functions.push(function(alloc, part.name, part.address, List::new(alloc))?)?;
+    Ok(functions)
 }
 
 fn globals(alloc: Global, some: bool) -> Result<List<GlobalVar>, NoMemory> {
@@ -98,16 +121,13 @@ fn globals(alloc: Global, some: bool) -> Result<List<GlobalVar>, NoMemory> {
 }
 
 fn module(alloc: Global, part: Part) -> Result<Module, NoMemory> {
-    let code = block(alloc, operation(alloc, part.op), part.inserted)?;
-    let mut first = function(alloc, "f0", 16, code)?;
-    first.labels.push(Bytes::new(alloc))?;
-    let mut functions = List::new(alloc);
-    functions.push(first)?;
-    functions.push(function(alloc, part.name, part.address, List::new(alloc))?)?;
+    let layout = List::from_slice(alloc, b"e")?;
+    let globals = globals(alloc, part.global)?;
+    let functions = functions(alloc, part)?;
     Ok(Module {
-        layout: List::from_slice(alloc, b"e")?,
+        layout,
         types: List::new(alloc),
-        globals: globals(alloc, part.global)?,
+        globals,
         functions,
     })
 }
