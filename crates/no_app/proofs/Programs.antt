@@ -1,18 +1,43 @@
 -- What the machine of today says of an accepted module.
-use Rattle.std.proofs.Common.{◌≡◌, Bool, true, false, List, [], ℕ, sym, ap, subst, ◌∙◌, refl, Option, Some, None, Result, Ok, Err}
+use Rattle.std.proofs.Common.{◌≡◌, ℕ, false, List, [], sym, ap, subst, ◌∙◌, refl, Option, Some, None, Result, Ok, Err}
 use Rattle.no_ir.specs.declared.function.Module.{Module}
 use Rattle.no_ir.specs.declared.function.Role.{Role}
 use Rattle.no_layout.specs.declared.extent.Extent.{Extent}
 use Rattle.no_layout.specs.declared.layout.Layout.{Layout}
 use Rattle.no_semantics.specs.Accepted.{Accepted}
+use Rattle.no_semantics.specs.Sound.{is_sound}
 use Rattle.no_app.specs.Beyond.{first_beyond}
-use Rattle.no_app.specs.Programs.{Loads, judged, run_by_machine}
+use Rattle.no_app.specs.Programs.{Loads, judged, left_out, run_by_machine}
 use Rattle.no_app.specs.declared.loading.Refused.{Refused}
 use Rattle.no_app.specs.declared.outcome.ModuleFault.{ModuleFault}
 
--- the first instruction beyond the machine, or that there is none, decides what is judged
-pub first_judged : (a b : Accepted) (first : Option (List ℕ)) (r : Result Accepted Refused) → a ≡ b → first_beyond b.«module» b.layout b.sizes ≡ first
-    → Loads r (λ found. found ≡ judged first b) → Loads r (λ found. found ≡ run_by_machine a)
-first_judged a b first r same is loads =
-    let whole : judged first b ≡ run_by_machine a = ap (λ (f : Option (List ℕ)). judged f b) (sym is) ∙ ap run_by_machine (sym same) in
-    subst (λ (x : Result Accepted ModuleFault). Loads r (λ found. found ≡ x)) whole loads
+abbrev Loaded : Result Accepted Refused → Result Accepted ModuleFault → Type 0
+Loaded r x = Loads r (λ found. found ≡ x)
+
+-- an instruction is beyond the machine
+pub beyond_told : (a : Accepted) (word : List ℕ) (r : Result Accepted Refused) → first_beyond a.«module» a.layout a.sizes ≡ Some word
+    → Loads r (λ found. found ≡ Err (left_out word)) → Loads r (λ found. found ≡ run_by_machine a)
+beyond_told a word r some loads = subst (Loaded r) (sym (ap (λ (first : Option (List ℕ)). judged first a) some)) loads
+
+-- none is
+pub rest_judged : (a s : Accepted) (r : Result Accepted Refused) → first_beyond a.«module» a.layout a.sizes ≡ None → s ≡ a
+    → Loads r (λ found. found ≡ judged None s) → Loads r (λ found. found ≡ run_by_machine a)
+rest_judged a s r none same loads = subst (Loaded r) (ap (judged None) same ∙ sym (ap (λ (first : Option (List ℕ)). judged first a) none)) loads
+
+pub unsound_told : (a : Accepted) (r : Result Accepted Refused) → first_beyond a.«module» a.layout a.sizes ≡ None → is_sound a.«module» a.layout a.sizes ≡ false
+    → Loads r (λ found. found ≡ Err (left_out [])) → Loads r (λ found. found ≡ run_by_machine a)
+unsound_told a r none unsound loads =
+    let refused : judged None a ≡ Err (left_out []) = rw unsound refl in
+    rest_judged a a r none refl (subst (Loaded r) (sym refused) loads)
+
+-- the parts of an accepted module
+pub parts_run : (a : Accepted) (m : Module) (l : Layout) (sizes : List Extent) (role : Role) (r : Result Accepted Refused)
+    → m ≡ a.«module» → l ≡ a.layout → sizes ≡ a.sizes → role ≡ a.role
+    → Loads r (λ found. found ≡ run_by_machine (record { «module» = m; layout = l; sizes = sizes; role = role })) → Loads r (λ found. found ≡ run_by_machine a)
+parts_run a m l sizes role r p q s t loads =
+    let whole : record { «module» = m; layout = l; sizes = sizes; role = role } ≡ a =
+    ap (λ (x : Module). let z : Accepted = record { «module» = x; layout = l; sizes = sizes; role = role } in z) p
+    ∙ ap (λ (x : Layout). let z : Accepted = record { «module» = a.«module»; layout = x; sizes = sizes; role = role } in z) q
+    ∙ ap (λ (x : List Extent). let z : Accepted = record { «module» = a.«module»; layout = a.layout; sizes = x; role = role } in z) s
+    ∙ ap (λ (x : Role). let z : Accepted = record { «module» = a.«module»; layout = a.layout; sizes = a.sizes; role = x } in z) t in
+    subst (Loaded r) (ap run_by_machine whole) loads

@@ -1,14 +1,16 @@
-ghost use Rattle.std.specs.Prelude.{◌≡◌, ◌<◌, ◌^◌, length, IfOk, true, Result, Ok, Err, None};
+ghost use Rattle.std.specs.Prelude.{◌≡◌, ◌<◌, ◌^◌, length, IfOk, IsTrue, true, Result, Ok, Err, None};
 ghost use Rattle.no_semantics.specs.Accepted.{Accepted};
 ghost use Rattle.no_app.specs.declared.outcome.ModuleFault.{ModuleFault};
 ghost use Rattle.no_image.specs.Fits.{has_image};
 ghost use Rattle.no_ir.specs.declared.function.Role.TheVariants.{Source};
+ghost use Rattle.no_layout.specs.Text.{is_formed};
 ghost use Rattle.no_app.specs.Programs.{Loads, Means, MeansModule, MeansTokens, judged, left_out, run_by_machine, unaccepted, unlexed, unread};
 
 use crate::beyond::first_beyond;
 use crate::outcome::ModuleFault;
 use no_image::fits;
 use no_ir::{List, Module, NoMemory, Role};
+use no_layout::{Layout, Sizes};
 use no_lex::{LexError, Token, tokens};
 use no_read::{ReadError, ReadFault, read_module};
 use no_semantics::{Sound, check};
@@ -46,14 +48,32 @@ fn beyond(alloc: Global, word: &[u8]) -> Refused
     }
 }
 
-/// An accepted module, where the machine of today runs it: its instructions first, and then the rest.
-#[tactic(auto, using(crate::proofs::Programs::beyond_judged, crate::proofs::Programs::first_judged))]
+/// An accepted module, where the machine of today runs it.
+#[tactic(auto, using(crate::proofs::Programs::parts_run))]
 fn runnable(alloc: Global, accepted: Verified) -> Result<Sound, Refused>
     ensures loads { Loads result (λ found. found ≡ run_by_machine accepted) }
     ensures fits { IfOk result (λ s. has_image s.«module» s.layout s.sizes ≡ true) }
     ensures role { IfOk result (λ s. s.role ≡ accepted.role) }
 {
     let (program, layout, sizes, role) = accepted.into_parts();
+    with_parts(alloc, program, layout, sizes, role)
+}
+
+/// A module under its layout, with the sizes of its named types, where a machine runs it: its instructions first, and then
+/// the rest.
+#[tactic(auto, using(crate::proofs::Programs::beyond_told, crate::proofs::Programs::unsound_told, crate::proofs::Programs::rest_judged))]
+fn with_parts(
+    alloc: Global,
+    program: Module,
+    layout: Layout,
+    sizes: Sizes,
+    role: Role,
+) -> Result<Sound, Refused>
+    requires { IsTrue (is_formed layout) }
+    ensures loads { Loads result (λ found. found ≡ run_by_machine (record { «module» = program; layout = layout; sizes = sizes; role = role })) }
+    ensures fits { IfOk result (λ s. has_image s.«module» s.layout s.sizes ≡ true) }
+    ensures role { IfOk result (λ s. s.role ≡ role) }
+{
     if let Some(word) = first_beyond(&program, &layout, &sizes) {
         return Err(beyond(alloc, word));
     }

@@ -73,8 +73,8 @@ place_once l m role kind.BadMark a b p q = p ∙ sym q
 
 same_fault : (f g : VerifyFault) → f.kind ≡ g.kind → place_of f ≡ place_of g → f ≡ g
 same_fault f g p q =
-    ap (λ (k : VerifyKind). record { kind = k; function = f.function; block = f.block; place = f.place }) p
-    ∙ ap (λ (at : FaultPlace). record { kind = g.kind; function = at.function; block = at.block; place = at.place }) q
+    ap (λ (k : VerifyKind). let z : VerifyFault = record { kind = k; function = f.function; block = f.block; place = f.place } in z) p
+    ∙ ap (λ (at : FaultPlace). let z : VerifyFault = record { kind = g.kind; function = at.function; block = at.block; place = at.place } in z) q
 
 module _ (is : VerifyKind → Option FaultPlace → Type 0) (once : Once is) (kinds : List VerifyKind) where
   somewhere : (f : VerifyFault) → IsFirstFault is kinds f → is f.kind None → ⊥
@@ -115,10 +115,10 @@ module _ (m : Module) (role : Role) where
       let layout : a.layout ≡ b.layout = from_ok a.layout b.layout (layout_of m.layout) p.layout q.layout in
       let sizes : a.sizes ≡ b.sizes = p.sizes ∙ ap (λ (l : Layout). sizes_of l m.types) layout ∙ sym q.sizes in
       let as' : a.role ≡ b.role = p.role_is ∙ sym q.role_is in
-      ap (λ (x : Module). record { «module» = x; layout = a.layout; sizes = a.sizes; role = a.role }) one
-      ∙ ap (λ (x : Layout). record { «module» = b.«module»; layout = x; sizes = a.sizes; role = a.role }) layout
-      ∙ ap (λ (x : List Extent). record { «module» = b.«module»; layout = b.layout; sizes = x; role = a.role }) sizes
-      ∙ ap (λ (x : Role). record { «module» = b.«module»; layout = b.layout; sizes = b.sizes; role = x }) as'
+      ap (λ (x : Module). let z : Accepted = record { «module» = x; layout = a.layout; sizes = a.sizes; role = a.role } in z) one
+      ∙ ap (λ (x : Layout). let z : Accepted = record { «module» = b.«module»; layout = x; sizes = a.sizes; role = a.role } in z) layout
+      ∙ ap (λ (x : List Extent). let z : Accepted = record { «module» = b.«module»; layout = b.layout; sizes = x; role = a.role } in z) sizes
+      ∙ ap (λ (x : Role). let z : Accepted = record { «module» = b.«module»; layout = b.layout; sizes = b.sizes; role = x } in z) as'
 
   accepted_or_faulty : (a : Accepted) (f : VerifyFault) → IsAccepted m role a → IsFaulty m role f → ⊥
   accepted_or_faulty a f p q =

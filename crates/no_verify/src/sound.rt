@@ -79,8 +79,11 @@ impl Sound {
 
     /// The module, its layout, the sizes of its named types, and its role. It takes no memory.
     pub fn into_parts(self) -> (Module, Layout, Sizes, Role)
-        ensures parts { result ≡ (self.«module», self.layout, self.sizes, self.role) }
-        ensures formed { is_formed self.layout ≡ true }
+        ensures program { result.0 ≡ self.«module» }
+        ensures layout { result.1 ≡ self.layout }
+        ensures sizes { result.2 ≡ self.sizes }
+        ensures role { result.3 ≡ self.role }
+        ensures formed { is_formed result.1 ≡ true }
     {
         let Sound {
             inner,
