@@ -5,3 +5,4 @@ pub mod Names
 pub mod Pieces
 pub mod Types
 pub mod Stand
+pub mod Wrote

@@ -1,0 +1,31 @@
+-- What a text is after one call more.
+use Rattle.std.proofs.Common.{◌≡◌, ℕ, List, [], ◌∷◌, ◌++◌, refl, sym, ap, ◌∙◌, append_assoc}
+use Rattle.std.proofs.lemmas.List.{append-nil}
+use Rattle.no_print.specs.Pieces.{Piece, written}
+use Rattle.no_print.specs.Wrote.{Wrote, Left}
+
+-- the bytes of pieces and then of others
+pub written-append : (a b : List Piece) → written (a ++ b) ≡ written a ++ written b
+written-append [] b = refl
+written-append (p ∷ a) b =
+    ap (λ (w : List ℕ). p.gap ++ (p.bytes ++ w)) (written-append a b)
+    ∙ ap (λ (w : List ℕ). p.gap ++ w) (sym (append_assoc p.bytes (written a) (written b)))
+    ∙ sym (append_assoc p.gap (p.bytes ++ written a) (written b))
+
+-- nothing of the whole is there yet
+pub left_all : (old : List ℕ) (whole : List Piece) → Left old old whole whole
+left_all old whole = record { is = refl }
+
+-- the first of what is left is appended
+pub left_more : (old mid new : List ℕ) (whole a rest : List Piece) → Wrote mid new a → Left old mid whole (a ++ rest) → Left old new whole rest
+left_more old mid new whole a rest w l = record {
+  is = l.is ∙ ap (λ (x : List ℕ). mid ++ x) (written-append a rest) ∙ sym (append_assoc mid (written a) (written rest)) ∙ ap (λ (x : List ℕ). x ++ written rest) (sym w.is);
+}
+
+-- the last is appended
+pub left_last : (old mid new : List ℕ) (whole a : List Piece) → Wrote mid new a → Left old mid whole a → Wrote old new whole
+left_last old mid new whole a w l = record { is = w.is ∙ sym l.is }
+
+-- nothing is left
+pub left_none : (old new : List ℕ) (whole : List Piece) → Left old new whole [] → Wrote old new whole
+left_none old new whole l = record { is = sym (append-nil new) ∙ sym l.is }
