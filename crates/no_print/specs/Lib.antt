@@ -6,3 +6,5 @@ pub mod Pieces
 pub mod Types
 pub mod Stand
 pub mod Wrote
+pub mod Scopes
+pub mod Commas

@@ -1,4 +1,5 @@
 ghost use Rattle.std.specs.Prelude.{◌≡◌, ◌++◌, decimal, OnOk};
+ghost use Rattle.no_print.specs.Commas.{break as break_pieces, gap_at as gap_at_of};
 ghost use Rattle.no_print.specs.Pieces.{comma, integer, sign, word};
 ghost use Rattle.no_print.specs.Wrote.{Wrote};
 
@@ -59,4 +60,18 @@ pub(crate) fn put_decimal(out: &mut Vec<u8>, gap: &[u8], n: u64) -> Result<(), N
 {
     let mut buffer = Buffer::new();
     put_token(out, gap, buffer.format(n).as_bytes())
+}
+
+/// Appends what stands in front of the item of this number in a list: a comma, but not in front of the first.
+pub(crate) fn put_break(out: &mut Vec<u8>, k: usize) -> Result<(), NoMemory>
+    ensures { OnOk result (Wrote out.old.items out.new.items (break_pieces k)) }
+{
+    if k == 0 { Ok(()) } else { put_comma(out) }
+}
+
+/// The blanks in front of the item of this number in a list, of which the first has its own.
+pub(crate) fn gap_at(gap: &[u8], k: usize) -> &[u8]
+    ensures { result.now ≡ gap_at_of gap.now k }
+{
+    if k == 0 { gap } else { SPACED }
 }
