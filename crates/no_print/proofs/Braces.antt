@@ -15,21 +15,24 @@ record IsSome (pieces : List Piece) : Type 0 where
   tail : List Piece
   is : pieces ≡ head ∷ tail
 
+some : (p : Piece) (pieces : List Piece) → IsSome (p ∷ pieces)
+some p pieces = record { head = p; tail = pieces; is = refl }
+
 some_append : (a b : List Piece) → IsSome a → IsSome (a ++ b)
 some_append a b s = record { head = s.head; tail = s.tail ++ b; is = ap (λ (l : List Piece). l ++ b) s.is }
 
 braces_are_some : (gap : List ℕ) (pieces : List Piece) → IsSome (in_braces gap pieces)
-braces_are_some gap [] = record { is = refl }
-braces_are_some gap (p ∷ pieces) = record { is = refl }
+braces_are_some gap [] = some _ _
+braces_are_some gap (p ∷ pieces) = some _ _
 
 step_is_some : (names : List (List ℕ)) (t : Ty-F (List ℕ → List Piece)) (gap : List ℕ) → IsSome (type_step names t gap)
-step_is_some names Ty-F.Void gap = record { is = refl }
-step_is_some names (Ty-F.Int w) gap = record { is = refl }
-step_is_some names Ty-F.Ptr gap = record { is = refl }
-step_is_some names (Ty-F.Array count element) gap = record { is = refl }
+step_is_some names Ty-F.Void gap = some _ _
+step_is_some names (Ty-F.Int w) gap = some _ _
+step_is_some names Ty-F.Ptr gap = some _ _
+step_is_some names (Ty-F.Array count element) gap = some _ _
 step_is_some names (Ty-F.Struct false fields) gap = braces_are_some gap (fields_with fields)
-step_is_some names (Ty-F.Struct true fields) gap = record { is = refl }
-step_is_some names (Ty-F.Named n) gap = record { is = refl }
+step_is_some names (Ty-F.Struct true fields) gap = some _ _
+step_is_some names (Ty-F.Named n) gap = some _ _
 
 type_is_some : (names : List (List ℕ)) (t : Ty) (gap : List ℕ) → IsSome (type_pieces names t gap)
 type_is_some names t gap =
