@@ -229,7 +229,13 @@ pub(crate) fn put_const(
         Const::Array(elements) => {
             put_array(out, scope, elements.as_slice(), resolved(&*scope, &*t), gap)
         }
-        Const::Struct(fields) => put_struct(out, scope, fields.as_slice(), resolved(&*scope, &*t), gap),
+        Const::Struct(fields) => put_struct(
+            out,
+            scope,
+            fields.as_slice(),
+            resolved(&*scope, &*t),
+            gap,
+        ),
         Const::Address(place) => put_place(out, scope, place, gap),
         Const::AddressAsInt(place) => put_address_as_int(out, scope, t, place, gap),
         Const::IntAsPtr(n) => put_int_as_address(out, gap, *n),
