@@ -1,0 +1,20 @@
+//! The one spelling of a module (docs/LANGUAGE.md, "Canonical text").
+#![tactic(auto)]
+
+mod constants;
+mod functions;
+mod names;
+mod numbers;
+mod operands;
+mod operations;
+mod output;
+mod places;
+mod printing;
+mod scope;
+mod types;
+mod words;
+
+pub use printing::print;
+
+#[cfg(test)]
+mod tests;
