@@ -1,0 +1,4 @@
+mod Ends
+mod Heads
+mod Lexing
+mod Taking
