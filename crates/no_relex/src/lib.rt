@@ -1,11 +1,6 @@
-//! The spelling of a module reads back: the lexer's part.
+//! The spelling of a module parts into its own tokens: the lexer's part of reading it back.
 #![tactic(auto)]
 
-ghost use Rattle.std.specs.Prelude.{◌≡◌};
+mod laws;
 
-/// Nothing yet.
-pub fn nothing(n: u8) -> u8
-    ensures { result ≡ n }
-{
-    n
-}
+pub use laws::pieces_lex_back;
