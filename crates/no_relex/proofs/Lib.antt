@@ -1,4 +1,6 @@
 mod Ends
+mod Forms
 mod Heads
 mod Lexing
+mod Spellings
 mod Taking
