@@ -105,30 +105,32 @@ comma_then ys f = sign_apart 44 glued ys refl refl refl f
 
 -- ---- lists
 
--- each of these is a form
-abbrev pub AllForms : List (List ℕ → List Piece) → Type 0
-AllForms [] = Unit {0}
-AllForms (form ∷ forms) = IsForm form × AllForms forms
+abbrev pub AllAre : {A : Type 0} → (A → Type 0) → List A → Type 0
+AllAre P [] = Unit {0}
+AllAre P (a ∷ all) = P a × AllAre P all
 
-pub commas_apart : {A : Type 0} (f : A → List Piece) (all : List A) → ((a : A) → Fits (f a)) → IsApart (behind_commas f all)
-commas_apart f [] each = nothing_apart
-commas_apart f (a ∷ all) each = comma_then (f a ++ behind_commas f all) (fits_then (f a) (behind_commas f all) (each a) (commas_apart f all each))
+pub all_are : {A : Type 0} (P : A → Type 0) → ((a : A) → P a) → (all : List A) → AllAre P all
+all_are P each [] = tt
+all_are P each (a ∷ all) = (each a, all_are P each all)
 
-pub list_form : {A : Type 0} (f : List ℕ → A → List Piece) (all : List A) → ((a : A) → IsForm (λ gap. f gap a)) → IsForm (λ gap. with_commas f gap all)
-list_form f [] each = empty_form
-list_form f (a ∷ all) each = then_form (λ gap. f gap a) (behind_commas (f spaced) all) (each a) (commas_apart (f spaced) all (λ b. (each b).fits spaced refl))
+pub commas_apart : {A : Type 0} (f : A → List Piece) (all : List A) → AllAre (λ a. Fits (f a)) all → IsApart (behind_commas f all)
+commas_apart f [] fits = nothing_apart
+commas_apart f (a ∷ all) fits = comma_then (f a ++ behind_commas f all) (fits_then (f a) (behind_commas f all) fits.0 (commas_apart f all fits.1))
+
+-- what stands behind a comma and a space
+spaced_fits : {A : Type 0} (f : List ℕ → A → List Piece) (all : List A) → AllAre (λ a. IsForm (λ gap. f gap a)) all → AllAre (λ a. Fits (f spaced a)) all
+spaced_fits f [] forms = tt
+spaced_fits f (a ∷ all) forms = (forms.0.fits spaced refl, spaced_fits f all forms.1)
+
+pub list_form : {A : Type 0} (f : List ℕ → A → List Piece) (all : List A) → AllAre (λ a. IsForm (λ gap. f gap a)) all → IsForm (λ gap. with_commas f gap all)
+list_form f [] forms = empty_form
+list_form f (a ∷ all) forms = then_form (λ gap. f gap a) (behind_commas (f spaced) all) forms.0 (commas_apart (f spaced) all (spaced_fits f all forms.1))
 
 abbrev pub behind : List ℕ → (List ℕ → List Piece) → List Piece
 behind gap form = form gap
 
-forms_apart : (forms : List (List ℕ → List Piece)) → AllForms forms → IsApart (behind_commas (behind spaced) forms)
-forms_apart [] all = nothing_apart
-forms_apart (form ∷ forms) all =
-    comma_then (form spaced ++ behind_commas (behind spaced) forms) (fits_then (form spaced) (behind_commas (behind spaced) forms) (all.0.fits spaced refl) (forms_apart forms all.1))
-
-pub forms_form : (forms : List (List ℕ → List Piece)) → AllForms forms → IsForm (λ gap. with_commas behind gap forms)
-forms_form [] all = empty_form
-forms_form (form ∷ forms) all = then_form form (behind_commas (behind spaced) forms) all.0 (forms_apart forms all.1)
+pub forms_form : (forms : List (List ℕ → List Piece)) → AllAre IsForm forms → IsForm (λ gap. with_commas behind gap forms)
+forms_form forms all = list_form behind forms all
 
 -- ---- braces
 

@@ -1,5 +1,5 @@
 -- Types and names are forms.
-use Rattle.std.proofs.Common.{◌≡◌, ℕ, Bool, true, false, List, [], ◌∷◌, ◌++◌, map, codes, decimal, refl, sym, subst, ◌∙◌}
+use Rattle.std.proofs.Common.{◌≡◌, ℕ, Bool, true, false, List, [], ◌∷◌, ◌++◌, map, codes, decimal, ◌==◌, if◌then◌else◌, refl, sym, subst, ◌∙◌}
 use Rattle.std.specs.Fmt.{signed_decimal}
 use Rattle.no_ir.specs.declared.types.Ty.{Ty, roll-Ty}
 use Rattle.no_ir.specs.declared.types.Ty.TheOpen.{Ty-F}
@@ -8,7 +8,7 @@ use Rattle.no_lex.specs.declared.token.TokenKind.TheVariants as kind
 use Rattle.no_print.specs.Pieces.{Piece, glued, spaced, sign, word, integer}
 use Rattle.no_print.specs.Names.{global_name, local_name, label_line, string, spelling, label_spelling, quoted, name_at, int_type, number, truth, signed}
 use Rattle.no_print.specs.Types.{in_braces, fields_with, struct_pieces, array_pieces, type_step, type_pieces}
-use Rattle.no_relex.proofs.Forms.{IsForm, AllForms, IsApart, alone, behind_space, braces_form, forms_form, integer_form, piece_form, sign_apart, sign_then, word_form, word_then, then_form, fits_then}
+use Rattle.no_relex.proofs.Forms.{IsForm, AllAre, IsApart, alone, behind_space, braces_form, forms_form, integer_form, piece_form, sign_apart, sign_then, word_form, word_then, then_form, fits_then}
 use Rattle.no_relex.proofs.Spellings.{decimal_kind, global_kind, int_kind, label_is, local_kind, quoted_kind, signed_kind}
 
 -- ---- names, strings and numbers
@@ -48,7 +48,7 @@ array_form count element f =
     (behind_space _ (word_then (codes "x") (element spaced ++ sign glued (codes "]")) refl
     (behind_space _ (then_form element (sign glued (codes "]")) f (sign_apart 93 glued [] refl refl refl tt))))))
 
-struct_form : (packed : Bool) (fields : List (List ℕ → List Piece)) → AllForms fields → IsForm (λ gap. struct_pieces packed gap (fields_with fields))
+struct_form : (packed : Bool) (fields : List (List ℕ → List Piece)) → AllAre IsForm fields → IsForm (λ gap. struct_pieces packed gap (fields_with fields))
 struct_form false fields all = braces_form (fields_with fields) ((forms_form fields all).fits spaced refl)
 struct_form true fields all =
     sign_then 60 (in_braces glued (fields_with fields) ++ sign glued (codes ">")) refl
@@ -56,7 +56,7 @@ struct_form true fields all =
 
 module _ (names : List (List ℕ)) where
   module _ (S : Type 0) (v : S → Ty) (h : (d : S) → IsForm (type_pieces names (v d))) where
-    fields_forms : (ds : List S) → AllForms (map (type_pieces names) (map v ds))
+    fields_forms : (ds : List S) → AllAre IsForm (map (type_pieces names) (map v ds))
     fields_forms [] = tt
     fields_forms (d ∷ ds) = (h d, fields_forms ds)
 
