@@ -3,4 +3,4 @@
 
 mod laws;
 
-pub use laws::pieces_lex_back;
+pub use laws::{a_module_lexes, modules_fit, pieces_lex_back};
