@@ -1,12 +1,12 @@
 -- Where a token ends: bytes that are a token are none with more behind them, where the next byte is no name character and no quote.
-use Rattle.std.proofs.Common.{◌≡◌, ℕ, ◌<◌, ◌≤◌, Bool, true, false, ◌&&◌, ◌||◌, List, [], ◌∷◌, ◌++◌, ◌==◌, bytes_eq, codes, Option, Some, None, if◌then◌else◌, refl, sym, ap, subst, ◌∙◌, arith, true≢false}
+use Rattle.std.proofs.Common.{◌≡◌, ℕ, Bool, true, false, ◌&&◌, ◌||◌, List, [], ◌∷◌, ◌++◌, ◌==◌, bytes_eq, Some, None, if◌then◌else◌, refl, sym, true≢false}
 use Rattle.std.specs.List.{list_all}
 use Rattle.std.proofs.lemmas.Bool.{eqb-true}
 use Rattle.no_lex.specs.declared.spelling.First.{First}
 use Rattle.no_lex.specs.declared.spelling.First.TheVariants.{Name, Sigil, GroupMark, MetaMark, Quote, OneSign, Nothing}
 use Rattle.no_lex.specs.declared.token.TokenKind.{TokenKind}
-use Rattle.no_lex.specs.declared.token.TokenKind.TheVariants.{Word, Integer, Global, Local, Group, Meta, Quoted, Sign}
-use Rattle.no_lex.specs.Spelling.{is_name_byte, is_sign, is_blank, closes, is_name, is_string, is_integer, name_kind, only_if, first_of, kind_behind, kind_of}
+use Rattle.no_lex.specs.declared.token.TokenKind.TheVariants.{Word, Integer, Meta, Quoted, Sign}
+use Rattle.no_lex.specs.Spelling.{is_name_byte, closes, is_name, is_string, is_integer, name_kind, only_if, first_of, kind_behind, kind_of}
 
 -- ---- tests of more bytes
 

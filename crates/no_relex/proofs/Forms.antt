@@ -1,5 +1,5 @@
 -- Forms: pieces behind any blanks, put together.
-use Rattle.std.proofs.Common.{◌≡◌, ℕ, Bool, true, false, not, ◌&&◌, ◌||◌, List, [], ◌∷◌, ◌++◌, bytes_eq, codes, Some, refl, sym, ap, ◌∙◌, true≢false}
+use Rattle.std.proofs.Common.{◌≡◌, ℕ, Bool, true, false, not, ◌||◌, List, [], ◌∷◌, ◌++◌, bytes_eq, codes, Some, refl, sym, true≢false}
 use Rattle.std.specs.List.{list_all}
 use Rattle.std.proofs.lemmas.Bool.{or_right}
 use Rattle.no_lex.specs.declared.token.TokenKind.{TokenKind}
@@ -7,7 +7,7 @@ use Rattle.no_lex.specs.declared.token.TokenKind.TheVariants as kind
 use Rattle.no_lex.specs.Spelling.{is_blank, kind_of}
 use Rattle.no_print.specs.Pieces.{Piece, piece, word, sign, integer, comma, glued, spaced, behind_commas, with_commas}
 use Rattle.no_print.specs.Types.{in_braces}
-use Rattle.no_relex.specs.Fits.{Spells, is_single, is_parting, begin_apart, is_quoted, begin_quoted, stays_apart, Fits}
+use Rattle.no_relex.specs.Fits.{Spells, is_single, begin_apart, begin_quoted, stays_apart, Fits}
 
 -- pieces fit, and tokens in front of them end where they begin
 pub record IsApart (pieces : List Piece) : Type 0 where

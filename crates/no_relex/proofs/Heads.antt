@@ -1,14 +1,14 @@
 -- What tokens and pieces begin with.
-use Rattle.std.proofs.Common.{◌≡◌, ℕ, Bool, true, false, not, ◌&&◌, ◌||◌, List, [], ◌∷◌, ◌++◌, ◌==◌, bytes_eq, codes, Some, None, inl, inr, if◌then◌else◌, refl, sym, subst, ◌∙◌, true≢false}
+use Rattle.std.proofs.Common.{◌≡◌, ℕ, Bool, true, false, not, ◌&&◌, ◌||◌, List, [], ◌∷◌, ◌++◌, ◌==◌, bytes_eq, codes, Some, inl, inr, if◌then◌else◌, refl, sym, subst, true≢false}
 use Rattle.std.specs.List.{list_all}
 use Rattle.std.proofs.lemmas.Bool.{and_parts, cases_Bool, eqb-true, or_cases}
 use Rattle.no_lex.specs.declared.spelling.First.{First}
 use Rattle.no_lex.specs.declared.spelling.First.TheVariants.{Name, Sigil, GroupMark, MetaMark, Quote, OneSign, Nothing}
 use Rattle.no_lex.specs.declared.token.TokenKind.{TokenKind}
 use Rattle.no_lex.specs.declared.token.TokenKind.TheVariants as kind
-use Rattle.no_lex.specs.Spelling.{is_name_byte, is_sign, is_blank, is_integer, is_name, is_string, closes, kind_behind, kind_of}
-use Rattle.no_print.specs.Pieces.{Piece, written}
-use Rattle.no_relex.specs.Fits.{Spells, is_single, is_parting, begin_apart, is_quoted, begin_quoted, Fits}
+use Rattle.no_lex.specs.Spelling.{is_name_byte, is_sign, is_blank, is_integer, is_name, is_string, kind_behind, kind_of}
+use Rattle.no_print.specs.Pieces.{Piece}
+use Rattle.no_relex.specs.Fits.{Spells, is_parting, begin_apart, is_quoted, begin_quoted, Fits}
 use Rattle.no_relex.proofs.Ends.{only_some, never}
 
 -- ---- bytes

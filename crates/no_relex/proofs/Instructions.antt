@@ -15,11 +15,10 @@ use Rattle.no_ir.specs.declared.instruction.Op.TheVariants as op
 use Rattle.no_ir.specs.declared.instruction.Instr.{Instr}
 use Rattle.no_lex.specs.declared.token.TokenKind.TheVariants as kind
 use Rattle.no_lex.specs.Spelling.{kind_of}
-use Rattle.no_print.specs.Pieces.{Piece, glued, spaced, indented, piece, sign, word, integer, comma, behind_commas, with_commas}
+use Rattle.no_print.specs.Pieces.{Piece, glued, spaced, indented, piece, sign, word, integer, comma, with_commas}
 use Rattle.no_print.specs.Names.{name_at, local_name, int_type, number}
 use Rattle.no_print.specs.Constants.{Spelled, type_at}
 use Rattle.no_print.specs.Instructions.{binary_word, cast_word, pred_word, volatile_word, alignment_pieces, inserted_pieces, Locals, operand_pieces, typed, sized, pointer, label, pair_pieces, count_pieces, argument_pieces, case_pieces, op_pieces, with_result, instr_pieces}
-use Rattle.no_relex.specs.Fits.{Fits}
 use Rattle.no_relex.proofs.Forms.{IsForm, IsApart, all_are, alone, apart_then, behind_space, comma_then, commas_apart, fits_then, integer_form, list_form, nothing_apart, piece_form, sign_apart, sign_then, then_form, word_form, word_then}
 use Rattle.no_relex.proofs.Spellings.{decimal_kind}
 use Rattle.no_relex.proofs.Types.{int_form, local_form, number_form, type_form}

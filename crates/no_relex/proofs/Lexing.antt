@@ -1,16 +1,16 @@
 -- Pieces that fit are the tokens of what is written from them.
-use Rattle.std.proofs.Common.{◌≡◌, ℕ, ◌+◌, ◌-◌, ◌<◌, ◌≤◌, Bool, true, false, List, [], ◌∷◌, ◌++◌, length, take, drop, refl, sym, ap, subst, ◌∙◌, append_assoc, arith, length-append}
+use Rattle.std.proofs.Common.{◌≡◌, ℕ, ◌+◌, ◌-◌, ◌≤◌, true, false, List, [], ◌∷◌, ◌++◌, length, take, drop, refl, sym, ap, subst, ◌∙◌, append_assoc, arith}
 use Rattle.std.specs.List.{list_all}
 use Rattle.std.proofs.lemmas.Bool.{and_parts}
 use Rattle.std.proofs.lemmas.List.{drop-drop, length-drop}
 use Rattle.std.proofs.Math.Seq.{take-append_seam, drop-append_seam}
 use Rattle.no_lex.specs.declared.token.Token.{Token}
 use Rattle.no_lex.specs.Spelling.{is_blank}
-use Rattle.no_lex.specs.Tokens.{skipped, next_place, IsLongest, settled, IsNext, Follow, Parts, Lexes}
+use Rattle.no_lex.specs.Tokens.{skipped, next_place, IsLongest, settled, IsNext, Follow}
 use Rattle.no_print.specs.Pieces.{Piece, written}
 use Rattle.no_print.specs.Stand.{IsPiece, Stand}
 use Rattle.no_relex.specs.Fits.{IsWell, Fits}
-use Rattle.no_relex.specs.Lexed.{PartsAs, LexesAs}
+use Rattle.no_relex.specs.Lexed.{PartsAs}
 use Rattle.no_relex.proofs.Heads.{ended}
 use Rattle.no_relex.proofs.Taking.{Taken, taken}
 

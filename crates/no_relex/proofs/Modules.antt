@@ -1,5 +1,5 @@
 -- The pieces of a module fit, and its text has them as its tokens.
-use Rattle.std.proofs.Common.{◌≡◌, ℕ, ◌≤◌, Bool, true, false, List, [], ◌∷◌, ◌++◌, codes, decimal, length, Option, Some, None, refl, sym, subst}
+use Rattle.std.proofs.Common.{◌≡◌, ℕ, ◌≤◌, Bool, true, false, List, [], ◌∷◌, ◌++◌, codes, decimal, length, Option, Some, None, refl}
 use Rattle.std.specs.List.{list_any}
 use Rattle.no_ir.specs.declared.types.Ty.{Ty}
 use Rattle.no_ir.specs.declared.instruction.Instr.{Instr}
@@ -9,17 +9,17 @@ use Rattle.no_ir.specs.declared.function.GlobalVar.{GlobalVar}
 use Rattle.no_ir.specs.declared.function.Module.{Module}
 use Rattle.no_lex.specs.declared.token.TokenKind.TheVariants as kind
 use Rattle.no_lex.specs.Spelling.{kind_of}
-use Rattle.no_print.specs.Pieces.{Piece, written, glued, spaced, lined, parted, piece, sign, word, with_commas}
+use Rattle.no_print.specs.Pieces.{Piece, glued, spaced, lined, parted, piece, sign, with_commas}
 use Rattle.no_print.specs.Names.{name_at, global_name, local_name, label_line, string}
-use Rattle.no_print.specs.Constants.{Spelled, type_at, const_pieces}
-use Rattle.no_print.specs.Instructions.{Locals, instr_pieces, alignment_pieces}
+use Rattle.no_print.specs.Constants.{Spelled, type_at}
+use Rattle.no_print.specs.Instructions.{Locals, instr_pieces}
 use Rattle.no_print.specs.Modules.{spelled_in, layout_pieces, named_pieces, kind_word, global_pieces, bound_pieces, address_pieces, attributes, head_pieces, type_alone, declared_pieces, param_pieces, instrs_pieces, blocks_pieces, locals_of, defined_pieces, function_by, function_pieces, has_inserted, node_pieces, each, pieces_in, module_pieces, module_text}
 use Rattle.no_relex.specs.Fits.{Fits}
 use Rattle.no_relex.specs.Lexed.{LexesAs}
-use Rattle.no_relex.proofs.Forms.{IsForm, IsApart, all_are, alone, apart_then, behind_space, fits_then, list_form, nothing_apart, on_line, piece_form, sign_apart, sign_then, then_form, word_form, word_then}
+use Rattle.no_relex.proofs.Forms.{IsForm, IsApart, all_are, alone, apart_then, behind_space, fits_then, list_form, nothing_apart, on_line, piece_form, sign_apart, sign_then, then_form, word_then}
 use Rattle.no_relex.proofs.Types.{global_form, label_form, local_form, string_form, type_form}
 use Rattle.no_relex.proofs.Constants.{const_form}
-use Rattle.no_relex.proofs.Instructions.{a_word, alignment_apart, instr_apart, word_and}
+use Rattle.no_relex.proofs.Instructions.{alignment_apart, instr_apart, word_and}
 use Rattle.no_relex.proofs.Lexing.{parts_as}
 
 pub each_apart : {A : Type 0} (f : A → List Piece) (all : List A) → ((a : A) → IsApart (f a)) → IsApart (each f all)

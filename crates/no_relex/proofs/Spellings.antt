@@ -1,12 +1,11 @@
 -- What names, strings and numbers are spelled as are tokens.
-use Rattle.std.proofs.Common.{◌≡◌, ℕ, zero, suc, ◌+◌, ◌-◌, ◌<◌, ◌≤◌, ◌/◌, ◌%◌, Bool, true, false, not, ◌&&◌, ◌||◌, List, [], ◌∷◌, ◌++◌, ◌==◌, nat_lt, length, bytes_eq, codes, decimal, ℤ, pos, negsuc, Some, inl, inr, if◌then◌else◌, refl, sym, ap, subst, ◌∙◌, append_assoc, arith, true≢false, ne_eqb, le-leb, lt-ltb}
+use Rattle.std.proofs.Common.{◌≡◌, ℕ, zero, suc, ◌+◌, ◌<◌, ◌/◌, ◌%◌, Bool, true, false, ◌||◌, List, [], ◌∷◌, ◌++◌, ◌==◌, nat_lt, bytes_eq, codes, decimal, ℤ, pos, negsuc, Some, inl, inr, if◌then◌else◌, refl, sym, ap, subst, ◌∙◌, append_assoc, arith, true≢false, ne_eqb, le-leb, lt-ltb}
 use Rattle.std.specs.List.{list_all}
 use Rattle.std.specs.Fmt.{digits, digits_onto, digit_glyph, signed_decimal}
 use Rattle.std.proofs.lemmas.Bool.{and_from, and_parts, cases_Bool, eqb-true}
-use Rattle.no_lex.specs.declared.token.TokenKind.{TokenKind}
 use Rattle.no_lex.specs.declared.token.TokenKind.TheVariants as kind
-use Rattle.no_lex.specs.Spelling.{is_digit, is_letter, is_name_byte, is_digits, is_integer, is_name, closes, is_string, name_kind, only_if, kind_behind, kind_of}
-use Rattle.no_print.specs.Names.{hex_digit, is_plain, escaped_byte, escaped, quoted, spelling, label_spelling, truth, signed}
+use Rattle.no_lex.specs.Spelling.{is_digit, is_letter, is_name_byte, is_integer, is_name, closes, is_string, name_kind, only_if, kind_of}
+use Rattle.no_print.specs.Names.{hex_digit, is_plain, escaped_byte, escaped, quoted, spelling, label_spelling}
 use Rattle.no_relex.specs.Fits.{IsLabel}
 
 -- ---- strings

@@ -1,5 +1,5 @@
 -- The token that is taken where a piece stands.
-use Rattle.std.proofs.Common.{◌≡◌, ℕ, zero, suc, ◌+◌, ◌-◌, ◌<◌, ◌≤◌, Bool, true, false, ◌&&◌, ◌||◌, List, [], ◌∷◌, ◌++◌, length, take, drop, bytes_eq, codes, Some, None, if◌then◌else◌, inl, inr, refl, sym, ap, subst, ◌∙◌, append_assoc, arith, length-append, true≢false}
+use Rattle.std.proofs.Common.{◌≡◌, ℕ, zero, suc, ◌+◌, ◌-◌, ◌<◌, ◌≤◌, Bool, true, false, ◌&&◌, List, [], ◌∷◌, ◌++◌, length, take, drop, bytes_eq, codes, Some, None, if◌then◌else◌, inl, inr, refl, sym, ap, subst, ◌∙◌, append_assoc, arith, length-append, true≢false}
 use Rattle.std.proofs.lemmas.Bool.{and_left, and_right, cases_Bool}
 use Rattle.std.proofs.Math.Seq.{take-append_seam, take-append-add, drop-append_seam}
 use Rattle.std.specs.Cmp.Lexicographic.{same_text}
@@ -8,8 +8,8 @@ use Rattle.no_lex.specs.declared.token.TokenKind.{TokenKind}
 use Rattle.no_lex.specs.declared.token.TokenKind.TheVariants as kind
 use Rattle.no_lex.specs.Spelling.{kind_of}
 use Rattle.no_lex.specs.Tokens.{skipped, IsLongest, begins_with, may_label, settled}
-use Rattle.no_print.specs.Pieces.{Piece, written}
-use Rattle.no_relex.specs.Fits.{IsLabel, IsWell, Spells, is_single, begin_apart, begin_quoted, stays_apart, Fits}
+use Rattle.no_print.specs.Pieces.{Piece}
+use Rattle.no_relex.specs.Fits.{IsLabel, Spells, is_single, stays_apart, Fits}
 use Rattle.no_relex.proofs.Ends.{more_none, c_none, sign_none, never}
 use Rattle.no_relex.proofs.Heads.{HasEnd, begins, ended, apart_end, quote_end}
 
@@ -61,7 +61,7 @@ settles_by start k bytes rest label mark l m =
     let back = drop-append_seam bytes rest in
     let a : (may_label k && begins_with 58 (drop (length bytes) (bytes ++ rest))) ≡ label = ap (λ ys. may_label k && begins_with 58 ys) back ∙ l in
     let b : (bytes_eq (take (length bytes) (bytes ++ rest)) (codes "c") && begins_with 34 (drop (length bytes) (bytes ++ rest))) ≡ mark =
-        ap (λ ys. bytes_eq ys (codes "c") && begins_with 34 (drop (length bytes) (bytes ++ rest))) front ∙ ap (λ ys. bytes_eq bytes (codes "c") && begins_with 34 ys) back ∙ m in
+    ap (λ ys. bytes_eq ys (codes "c") && begins_with 34 (drop (length bytes) (bytes ++ rest))) front ∙ ap (λ ys. bytes_eq bytes (codes "c") && begins_with 34 ys) back ∙ m in
     λ i. settled_by (a i) (b i) start k (length bytes)
 
 -- ---- pieces in front of a byte where tokens end

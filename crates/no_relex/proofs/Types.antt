@@ -1,5 +1,5 @@
 -- Types and names are forms.
-use Rattle.std.proofs.Common.{◌≡◌, ℕ, Bool, true, false, List, [], ◌∷◌, ◌++◌, map, codes, decimal, ◌==◌, if◌then◌else◌, refl, sym, subst, ◌∙◌}
+use Rattle.std.proofs.Common.{ℕ, Bool, true, false, List, [], ◌∷◌, ◌++◌, map, codes, decimal, ◌==◌, if◌then◌else◌, refl, sym, subst}
 use Rattle.std.specs.Fmt.{signed_decimal}
 use Rattle.no_ir.specs.declared.types.Ty.{Ty, roll-Ty}
 use Rattle.no_ir.specs.declared.types.Ty.TheOpen.{Ty-F}
@@ -8,7 +8,7 @@ use Rattle.no_lex.specs.declared.token.TokenKind.TheVariants as kind
 use Rattle.no_print.specs.Pieces.{Piece, glued, spaced, sign, word, integer}
 use Rattle.no_print.specs.Names.{global_name, local_name, label_line, string, spelling, label_spelling, quoted, name_at, int_type, number, truth, signed}
 use Rattle.no_print.specs.Types.{in_braces, fields_with, struct_pieces, array_pieces, type_step, type_pieces}
-use Rattle.no_relex.proofs.Forms.{IsForm, AllAre, IsApart, alone, behind_space, braces_form, forms_form, integer_form, piece_form, sign_apart, sign_then, word_form, word_then, then_form, fits_then}
+use Rattle.no_relex.proofs.Forms.{IsForm, AllAre, alone, behind_space, braces_form, forms_form, integer_form, piece_form, sign_apart, sign_then, word_form, word_then, then_form, fits_then}
 use Rattle.no_relex.proofs.Spellings.{decimal_kind, global_kind, int_kind, label_is, local_kind, quoted_kind, signed_kind}
 
 -- ---- names, strings and numbers

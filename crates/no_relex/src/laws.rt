@@ -11,17 +11,14 @@ ghost use Rattle.no_relex.specs.Lexed.{PartsAs, LexesAs};
 /// byte, or the end, or the token is such a sign or a label itself. The mark `c` stands directly before a string.
 pub fn pieces_lex_back()
     ensures { (pieces : List Piece) → Fits pieces → PartsAs (written pieces ++ 10 ∷ []) pieces }
-{
-}
+{}
 
 /// The pieces that a module is spelled with fit, whatever its names, numbers and types are.
 pub fn modules_fit()
     ensures { (m : Module) → Fits (module_pieces m) }
-{
-}
+{}
 
 /// The text of a module that isn't longer than a limit parts into tokens that are the module's pieces one for one.
 pub fn a_module_lexes()
     ensures { (limit : ℕ) (m : Module) → length (module_text m) ≤ limit → LexesAs limit (module_text m) (module_pieces m) }
-{
-}
+{}
