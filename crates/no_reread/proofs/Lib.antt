@@ -1,0 +1,6 @@
+pub mod Frame
+pub mod Listing
+pub mod Opening
+pub mod Standing
+pub mod Names
+pub mod Numbers

@@ -1,0 +1,2 @@
+//! What was read is read again where it is printed: types, places and constants.
+#![tactic(auto)]
