@@ -4,3 +4,5 @@ pub mod Opening
 pub mod Standing
 pub mod Names
 pub mod Numbers
+pub mod Widths
+pub mod Found
