@@ -1,5 +1,5 @@
 -- What pieces spell by each way to make a rule.
-use Rattle.std.proofs.Common.{◌≡◌, ℕ, suc, zero, Bool, true, false, List, [], ◌∷◌, ◌++◌, Option, Some, None, Result, Ok, Err, inl, inr, refl, sym, ap, subst, ◌∙◌}
+use Rattle.std.proofs.Common.{append-nil, ◌≡◌, ℕ, suc, zero, Bool, true, false, List, [], ◌∷◌, ◌++◌, Option, Some, None, Result, Ok, Err, inl, inr, refl, sym, ap, subst, ◌∙◌}
 use Rattle.no_lex.specs.declared.token.Token.{Token}
 use Rattle.no_lex.specs.declared.token.TokenKind.{TokenKind}
 use Rattle.no_grammar.specs.declared.fault.Flaw.{Flaw}
@@ -51,3 +51,7 @@ module _ {S A B : Type 0} (text : List ℕ) where
 
   pub checked_spells : (p : Rule S A) (f : A → Result B Flaw) (s t : S) (pieces : List Piece) (a : A) (b : B) → Spells text p s pieces a t → f a ≡ Ok b → Spells text (checked p f) s pieces b t
   checked_spells p f s t pieces a b h e tokens stand = record { value = a; read = h tokens stand; passes = e }
+
+  -- a rule and a value made of what it gives
+  pub made_spells : (p : Rule S A) (f : A → B) (s t : S) (pieces : List Piece) (a : A) → Spells text p s pieces a t → Spells text (p >>= λ x. done (f x)) s pieces (f a) t
+  made_spells p f s t pieces a h = subst (λ l. Spells text (p >>= λ x. done (f x)) s l (f a) t) (append-nil pieces) (then_spells p (λ x. done (f x)) s t t pieces [] a (f a) h (done_spells text t (f a)))

@@ -6,3 +6,7 @@ pub mod Names
 pub mod Numbers
 pub mod Widths
 pub mod Found
+pub mod Bytes
+pub mod Items
+pub mod SameTypes
+pub mod TypePieces

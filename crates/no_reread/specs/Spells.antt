@@ -13,3 +13,8 @@ Spells text p s pieces a t = (tokens : List Token) → Stand text tokens pieces 
 -- the same names and types over another text
 abbrev pub over : Meaning → List ℕ → Meaning
 over m text = record { text = text; named = m.named; types = m.types; globals = m.globals; functions = m.functions }
+
+-- what a rule read is spelled for the other rule, from any state that is like the one that it was read from, to a state that is like the one behind it
+abbrev pub Again : {S A : Type 0} → (S → S → Type 0) → List ℕ → Rule S A → Rule S A → (A → List Piece) → Type 0
+Again {S = S} {A = A} Same text p q pieces =
+    (s z t : S) (tokens : List Token) (a : A) → Same s z → p.means s tokens a t → (u : S) × Same t u × Spells text q z (pieces a) a u
