@@ -10,3 +10,5 @@ pub mod Bytes
 pub mod Items
 pub mod SameTypes
 pub mod TypePieces
+pub mod TypeHeads
+pub mod TypesAgain

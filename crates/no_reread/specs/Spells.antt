@@ -1,5 +1,5 @@
 -- What pieces of a text spell by a rule.
-use Rattle.std.specs.Prelude.{ℕ, List}
+use Rattle.std.specs.Prelude.{ℕ, ◌<◌, List, [], ◌∷◌}
 use Rattle.no_lex.specs.declared.token.Token.{Token}
 use Rattle.no_grammar.specs.Rules.{Rule}
 use Rattle.no_grammar.specs.Scope.{Meaning}
@@ -9,6 +9,11 @@ use Rattle.no_print.specs.Stand.{Stand}
 -- whatever tokens of the text stand as these pieces, the rule gives them this value and this state behind it
 abbrev pub Spells : {S A : Type 0} → List ℕ → Rule S A → S → List Piece → A → S → Type 0
 Spells text p s pieces a t = (tokens : List Token) → Stand text tokens pieces → p.means s tokens a t
+
+-- each byte is below 256
+abbrev pub AreBytes : List ℕ → Type 0
+AreBytes [] = Unit {0}
+AreBytes (b ∷ bytes) = (b < 256) × AreBytes bytes
 
 -- the same names and types over another text
 abbrev pub over : Meaning → List ℕ → Meaning
