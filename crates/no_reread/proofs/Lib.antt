@@ -12,3 +12,5 @@ pub mod SameTypes
 pub mod TypePieces
 pub mod TypeHeads
 pub mod TypesAgain
+pub mod Skipping
+pub mod Places
