@@ -346,3 +346,146 @@ module _ (m : Meaning) (text : List ℕ) (bytes : AreBytes m.text) where
             (subst (Begins text (is_sign text (codes "}")) false) (sym (append_assoc (member_pieces t c spaced) (behind_commas (field_at spaced) (written types all)) (sign gap (codes "}"))))
               (begins_by text (is_sign text (codes "}")) false (member (over m text) depth beyond t) (member_opens t (codes "}") refl) tt tt c (member_pieces t c spaced) (behind_commas (field_at spaced) (written types all) ++ sign gap (codes "}")) (h.0 spaced)))
             (some_spell t types c all h)
+
+    struct_spells : (types : List Ty) (gap : List ℕ) (all : List Const) → EachField types all
+        → Spells text (struct_const (over m text) depth beyond types) tt (with_commas field_at spaced (written types all) ++ sign gap (codes "}")) (const.Struct all) tt
+    unfolding struct_const
+    struct_spells types gap all h = made_spells text (fields (over m text) depth beyond (codes "}") types) (λ all. const.Struct all) tt tt (with_commas field_at spaced (written types all) ++ sign gap (codes "}")) all (fields_spell gap types all h)
+
+    struct_are : (types : List Ty) (tokens : List Token) (c : Const) → (struct_const m depth inside types).means tt tokens c tt → (all : List Const) × (c ≡ const.Struct all) × EachField types all
+    unfolding struct_const
+    struct_are types tokens c r = (r.first, r.in_back.1, fields_are types r.front r.first r.in_front)
+
+    packed_are : (types : List Ty) (tokens : List Token) (c : Const) → (packed_const m depth inside types).means tt tokens c tt → (all : List Const) × (c ≡ const.Struct all) × EachField types all
+    unfolding packed_const
+    packed_are types tokens c r = let list = r.in_back in (list.first, list.in_back.in_back.1, fields_are types list.front list.first list.in_front)
+
+    -- ---- a type's element and fields, for reading and for spelling
+
+    same_element : (t : Ty) (x : Ty-F Ty) → BracketAgain x head.Array → print.element_in x ≡ element_in t x
+    same_element t (Ty-F.Array n e) h = refl
+    same_element t Ty-F.Void h = absurd h
+    same_element t (Ty-F.Int w) h = absurd h
+    same_element t Ty-F.Ptr h = absurd h
+    same_element t (Ty-F.Struct p fs) h = absurd h
+    same_element t (Ty-F.Named n) h = absurd h
+
+    opens_array : (x : Ty-F Ty) → BracketAgain x head.Array → const_by (shape_in x) kind.Sign (codes "[") ≡ Ok head.Array
+    opens_array (Ty-F.Array n e) h = refl
+    opens_array Ty-F.Void h = absurd h
+    opens_array (Ty-F.Int w) h = absurd h
+    opens_array Ty-F.Ptr h = absurd h
+    opens_array (Ty-F.Struct p fs) h = absurd h
+    opens_array (Ty-F.Named n) h = absurd h
+
+    same_fields : (x : Ty-F Ty) → print.fields_in x ≡ fields_in x
+    same_fields (Ty-F.Struct p fs) = refl
+    same_fields _ = refl
+
+    opens_struct : (x : Ty-F Ty) → (BracketAgain x head.Struct) ⊎ (BracketAgain x head.Packed) → const_by (shape_in x) kind.Sign (codes "{") ≡ Ok head.Struct
+    opens_struct (Ty-F.Struct p fs) h = refl
+    opens_struct Ty-F.Void (inl h) = absurd h
+    opens_struct Ty-F.Void (inr h) = absurd h
+    opens_struct (Ty-F.Int w) (inl h) = absurd h
+    opens_struct (Ty-F.Int w) (inr h) = absurd h
+    opens_struct Ty-F.Ptr (inl h) = absurd h
+    opens_struct Ty-F.Ptr (inr h) = absurd h
+    opens_struct (Ty-F.Array n e) (inl h) = absurd h
+    opens_struct (Ty-F.Array n e) (inr h) = absurd h
+    opens_struct (Ty-F.Named n) (inl h) = absurd h
+    opens_struct (Ty-F.Named n) (inr h) = absurd h
+
+    -- ---- constants with brackets
+
+    abbrev Bracketed : Ty → Const → List ℕ → Type 0
+    Bracketed t c gap = Spells text (bracket_const (over m text) depth beyond t) tt (const_pieces (spelled_by m) c t gap) c tt
+
+    leaf_whole : (t : Ty) (gap : List ℕ) (l : LeafHead) (tokens : List Token) (c : Const) → WidthFits (out-Ty (resolved m t)) → LeafAgain (out-Ty (resolved m t)) l → (after_leaf m (suc depth) t l).means tt tokens c tt → Bracketed t c gap
+    leaf_whole t gap l tokens c fits h r =
+        let x = rest_again (suc depth) t l tokens c r in
+        subst (λ ps. Spells text (bracket_const (over m text) depth beyond t) tt ps c tt) (sym (x.are gap))
+          (then_spells text (plain (const_head text (shape_of (resolved m t)))) (after_head (over m text) depth beyond t) tt tt tt (leaf_first (out-Ty (resolved m t)) gap l) x.pieces (head.Leaf l) c
+            (bracket_spells text gap (out-Ty (resolved m t)) l fits h) x.spells)
+
+    array_whole : (t : Ty) (gap : List ℕ) (tokens : List Token) (c : Const) → BracketAgain (out-Ty (resolved m t)) head.Array → (array_const m depth inside (element_in t (out-Ty (resolved m t)))).means tt tokens c tt → Bracketed t c gap
+    array_whole t gap tokens c h r =
+        let x : Ty-F Ty = out-Ty (resolved m t) in
+        let y = array_again (element_in t x) gap tokens c r in
+        let element : print.element_in (out-Ty (print.resolved (spelled_by m) t)) ≡ element_in t x = ap (λ (u : Ty). print.element_in (out-Ty u)) (resolved_same m t) ∙ same_element t x h in
+        let are : const_pieces (spelled_by m) c t gap ≡ sign gap (codes "[") ++ (with_commas (λ g c. member_pieces (element_in t x) c g) glued y.0 ++ sign glued (codes "]")) =
+            ap (λ (c : Const). const_pieces (spelled_by m) c t gap) y.1 ∙ array_is (spelled_by m) t gap y.0
+            ∙ ap (λ (e : Ty). sign gap (codes "[") ++ (with_commas (λ g c. member_pieces e c g) glued y.0 ++ sign glued (codes "]"))) element in
+        subst (λ ps. Spells text (bracket_const (over m text) depth beyond t) tt ps c tt) (sym are)
+          (then_spells text (plain (const_head text (shape_in x))) (after_head (over m text) depth beyond t) tt tt tt (sign gap (codes "[")) (with_commas (λ g c. member_pieces (element_in t x) c g) glued y.0 ++ sign glued (codes "]")) head.Array c
+            (plain_spells {S = Unit {0}} text (const_by (shape_in x)) tt (record { gap = gap; kind = kind.Sign; bytes = codes "[" }) head.Array (opens_array x h))
+            (subst (λ (c : Const). Spells text (array_const (over m text) depth beyond (element_in t x)) tt (with_commas (λ g c. member_pieces (element_in t x) c g) glued y.0 ++ sign glued (codes "]")) c tt) (sym y.1) y.2))
+
+    struct_whole : (t : Ty) (gap : List ℕ) (all : List Const) (c : Const) → c ≡ const.Struct all → (BracketAgain (out-Ty (resolved m t)) head.Struct) ⊎ (BracketAgain (out-Ty (resolved m t)) head.Packed)
+        → EachField (fields_in (out-Ty (resolved m t))) all → Bracketed t c gap
+    struct_whole t gap all c is h each =
+        let x : Ty-F Ty = out-Ty (resolved m t) in
+        let types : List Ty = fields_in x in
+        let end : List ℕ = brace_gap (written types all) in
+        let same : print.fields_in (out-Ty (print.resolved (spelled_by m) t)) ≡ types = ap (λ (u : Ty). print.fields_in (out-Ty u)) (resolved_same m t) ∙ same_fields x in
+        let are : const_pieces (spelled_by m) c t gap ≡ sign gap (codes "{") ++ (with_commas field_at spaced (written types all) ++ sign end (codes "}")) =
+            ap (λ (c : Const). const_pieces (spelled_by m) c t gap) is ∙ struct_is (spelled_by m) t gap all
+            ∙ ap (λ (l : List Ty). in_braces gap (with_commas field_at spaced (written l all))) same ∙ braces_are gap field_at (written types all) (first_has types all each) in
+        subst (λ ps. Spells text (bracket_const (over m text) depth beyond t) tt ps c tt) (sym are)
+          (then_spells text (plain (const_head text (shape_in x))) (after_head (over m text) depth beyond t) tt tt tt (sign gap (codes "{")) (with_commas field_at spaced (written types all) ++ sign end (codes "}")) head.Struct c
+            (plain_spells {S = Unit {0}} text (const_by (shape_in x)) tt (record { gap = gap; kind = kind.Sign; bytes = codes "{" }) head.Struct (opens_struct x h))
+            (subst (λ (c : Const). Spells text (struct_const (over m text) depth beyond types) tt (with_commas field_at spaced (written types all) ++ sign end (codes "}")) c tt) (sym is) (struct_spells types end all each)))
+
+    head_whole : (t : Ty) (gap : List ℕ) (h : ConstHead) (token : Token) (tokens : List Token) (c : Const) → TypeFits t → const_head m.text (shape_of (resolved m t)) token ≡ Ok h → (after_head m depth inside t h).means tt tokens c tt → Bracketed t c gap
+    head_whole t gap (head.Leaf l) token tokens c fits e r =
+        let x : Ty-F Ty = out-Ty (resolved m t) in
+        leaf_whole t gap l tokens c (resolved_fits m t fit fits) (leaf_again x token.kind (spelled m.text token) l (leaf_under (shape_in x) token.kind (spelled m.text token) l e)) r
+    head_whole t gap head.Array token tokens c fits e r =
+        let x : Ty-F Ty = out-Ty (resolved m t) in array_whole t gap tokens c (bracket_again x token.kind (spelled m.text token) head.Array e) r
+    head_whole t gap head.Struct token tokens c fits e r =
+        let x : Ty-F Ty = out-Ty (resolved m t) in
+        let y = struct_are (fields_in x) tokens c r in
+        struct_whole t gap y.0 c y.1 (inl (bracket_again x token.kind (spelled m.text token) head.Struct e)) y.2
+    head_whole t gap head.Packed token tokens c fits e r =
+        let x : Ty-F Ty = out-Ty (resolved m t) in
+        let y = packed_are (fields_in x) tokens c r in
+        struct_whole t gap y.0 c y.1 (inr (bracket_again x token.kind (spelled m.text token) head.Packed e)) y.2
+
+    bracket_again_all : (t : Ty) (gap : List ℕ) (tokens : List Token) (c : Const) → TypeFits t → (bracket_const m depth inside t).means tt tokens c tt → Bracketed t c gap
+    bracket_again_all t gap tokens c fits r =
+        head_whole t gap r.first r.in_front.token r.back c fits (kept_value tt (const_head m.text (shape_of (resolved m t)) r.in_front.token) r.first tt r.in_front.value) r.in_back
+
+  -- ---- all constants
+
+  flat_again : (fit : TypesFit m.types) (t : Ty) (gap : List ℕ) (tokens : List Token) (c : Const) → TypeFits t → (flat_const m t).means tt tokens c tt → Spells text (flat_const (over m text) t) tt (const_pieces (spelled_by m) c t gap) c tt
+  flat_again fit t gap tokens c fits r =
+      let l : LeafHead = r.first in
+      let token = r.in_front.token in
+      let x : Ty-F Ty = out-Ty (resolved m t) in
+      let read = kept_value tt (leaf_head m.text (shape_of (resolved m t)) token) l tt r.in_front.value in
+      let y = rest_again zero t l r.back c r.in_back in
+      subst (λ ps. Spells text (flat_const (over m text) t) tt ps c tt) (sym (y.are gap))
+        (then_spells text (plain (leaf_head text (shape_of (resolved m t)))) (after_leaf (over m text) zero t) tt tt tt (leaf_first x gap l) y.pieces l c
+          (flat_spells text gap x l (resolved_fits m t fit fits) (leaf_again x token.kind (spelled m.text token) l read)) y.spells)
+
+  place_or : (depth : ℕ) (t : Ty) (gap : List ℕ) (tokens : List Token) (c : Const) (other : Rule (Unit {0}) Const) → (address m depth).means tt tokens c tt
+      → Spells text (if_next (begins_place text) (address (over m text) depth) other) tt (const_pieces (spelled_by m) c t gap) c tt
+  place_or depth t gap tokens c other r =
+      let spells = address_again depth t gap tokens c r in
+      yes_spells text (begins_place text) (address (over m text) depth) other tt (const_pieces (spelled_by m) c t gap) c tt
+        (begins_alone text (begins_place text) true (address (over m text) depth) (address_opens depth) tt tt c (const_pieces (spelled_by m) c t gap) spells) spells
+
+  pub const_again : (fit : TypesFit m.types) (depth : ℕ) (t : Ty) → TypeFits t → (gap : List ℕ) (tokens : List Token) (c : Const) → (a_const m depth t).means tt tokens c tt
+      → Spells text (a_const (over m text) depth t) tt (const_pieces (spelled_by m) c t gap) c tt
+  unfolding a_const
+  const_again fit zero t fits gap tokens c (inl r) = place_or zero t gap tokens c (flat_const (over m text) t) r.1
+  const_again fit zero t fits gap tokens c (inr r) =
+      let spells = flat_again fit t gap tokens c fits r.1 in
+      let opens = then_opens (begins_place text) false (plain (leaf_head text (shape_of (resolved m t)))) (after_leaf (over m text) zero t) (leaf_opens text (shape_of (resolved m t))) in
+      no_spells text (begins_place text) (address (over m text) zero) (flat_const (over m text) t) tt (const_pieces (spelled_by m) c t gap) c tt
+        (begins_alone text (begins_place text) false (flat_const (over m text) t) opens tt tt c (const_pieces (spelled_by m) c t gap) spells) spells
+  const_again fit (suc depth) t fits gap tokens c (inl r) = place_or (suc depth) t gap tokens c (bracket_const (over m text) depth (a_const (over m text) depth) t) r.1
+  const_again fit (suc depth) t fits gap tokens c (inr r) =
+      let spells = bracket_again_all depth fit (const_again fit depth) t gap tokens c fits r.1 in
+      let opens = then_opens (begins_place text) false (plain (const_head text (shape_of (resolved m t)))) (after_head (over m text) depth (a_const (over m text) depth) t) (bracket_opens text (shape_of (resolved m t))) in
+      no_spells text (begins_place text) (address (over m text) (suc depth)) (bracket_const (over m text) depth (a_const (over m text) depth) t) tt (const_pieces (spelled_by m) c t gap) c tt
+        (begins_alone text (begins_place text) false (bracket_const (over m text) depth (a_const (over m text) depth) t) opens tt tt c (const_pieces (spelled_by m) c t gap) spells) spells
