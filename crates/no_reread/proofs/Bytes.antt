@@ -1,6 +1,6 @@
 -- What is taken out of bytes is bytes.
-use Rattle.std.proofs.Common.{◌≡◌, ℕ, suc, zero, ◌+◌, ◌-◌, ◌*◌, ◌<◌, ◌≤◌, Bool, true, false, ◌&&◌, ◌||◌, List, [], ◌∷◌, ◌==◌, nat_le, length, take, drop, ◌⊎◌, inl, inr, if◌then◌else◌, refl, sym, ap, subst, ◌∙◌, arith}
-use Rattle.std.proofs.lemmas.Bool.{leb-true, le-leb, lt-leb}
+use Rattle.std.proofs.Common.{◌≡◌, ℕ, ◌+◌, ◌-◌, ◌*◌, ◌<◌, Bool, true, false, ◌&&◌, ◌||◌, List, [], ◌∷◌, ◌==◌, nat_le, length, drop, ◌⊎◌, inl, inr, if◌then◌else◌, refl, arith}
+use Rattle.std.proofs.lemmas.Bool.{leb-true, lt-leb}
 use Rattle.no_lex.specs.declared.token.Token.{Token}
 use Rattle.no_grammar.specs.Spelled.{spelled}
 use Rattle.no_grammar.specs.Unescaped.{is_hex, hex_value, unescaped, inner, is_quoted, name_of}
