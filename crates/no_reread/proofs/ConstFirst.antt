@@ -1,5 +1,5 @@
 -- Whether a constant begins as a place does, and the types that are read at brackets.
-use Rattle.std.proofs.Common.{◌≡◌, ℕ, Bool, true, false, ◌&&◌, ◌||◌, ◌==◌, List, [], ◌∷◌, codes, drop, bytes_eq, slice_get, unwrap_or, Result, Ok, Err, suc, zero, if◌then◌else◌, refl, sym, ap, subst, ◌∙◌}
+use Rattle.std.proofs.Common.{◌<◌, ◌≤◌, ◌≡◌, ℕ, Bool, true, false, ◌&&◌, ◌||◌, ◌==◌, List, [], ◌∷◌, codes, drop, bytes_eq, slice_get, unwrap_or, Result, Ok, Err, suc, zero, if◌then◌else◌, refl, sym, ap, subst, ◌∙◌}
 use Rattle.std.proofs.lemmas.Slice.Eq.{bytes_eq-Decides}
 use Rattle.no_lex.specs.declared.token.Token.{Token}
 use Rattle.no_lex.specs.declared.token.TokenKind.{TokenKind}
@@ -7,7 +7,7 @@ use Rattle.no_lex.specs.declared.token.TokenKind.TheVariants as kind
 use Rattle.no_ir.specs.declared.types.Ty.{Ty, out-Ty, roll-Ty}
 use Rattle.no_ir.specs.declared.types.Ty.TheOpen.{Ty-F}
 use Rattle.no_ir.specs.declared.types.Ty.TheVariants as ty
-use Rattle.no_ir.specs.declared.types.Ty.TheVariants.{rolls-Int, rolls-Ptr, rolls-Array, rolls-Struct, rolls-Named}
+use Rattle.no_ir.specs.declared.types.Ty.TheVariants.{rolls-Void, rolls-Int, rolls-Ptr, rolls-Array, rolls-Struct, rolls-Named}
 use Rattle.no_ir.specs.declared.types.Ty.TheViews.{out-roll-Ty}
 use Rattle.no_grammar.specs.declared.fault.Flaw.{Flaw}
 use Rattle.no_grammar.specs.declared.fault.Flaw.TheVariants.{Syntax}
@@ -211,3 +211,13 @@ module _ (m : Meaning) where
       by : (x : Ty-F Ty) → TypeFits (named_in t m.types x)
       by (Ty-F.Named n) = there_fits m.types n t all fits
       by _ = fits
+
+-- types that the text names by themselves
+pub int_fits : (w : ℕ) → 0 < w → w ≤ 64 → TypeFits (ty.Int w)
+int_fits w some most = fits_at (Ty-F.Int w) (ty.Int w) (ty.Int w) refl (rolls-Int w) (some, most)
+
+pub ptr_fits : TypeFits ty.Ptr
+ptr_fits = fits_at Ty-F.Ptr ty.Ptr ty.Ptr refl rolls-Ptr tt
+
+pub void_fits : TypeFits ty.Void
+void_fits = fits_at Ty-F.Void ty.Void ty.Void refl rolls-Void tt
