@@ -1,10 +1,6 @@
 //! The names that a text's scan finds are those that its forms define.
 #![tactic(auto)]
 
-ghost use Rattle.std.specs.Prelude.{◌≡◌};
+mod laws;
 
-pub fn one() -> u8
-    ensures { result ≡ 1 }
-{
-    1
-}
+pub use laws::names_are_the_modules;
