@@ -1,28 +1,23 @@
 -- What attributes do to the scan.
-use Rattle.std.proofs.Common.{◌≡◌, ℕ, suc, zero, ◌+◌, ◌-◌, Bool, true, false, not, ◌&&◌, ◌||◌, ◌==◌, List, [], ◌∷◌, ◌++◌, bytes_eq, codes, if◌then◌else◌, Option, Some, None, Result, Ok, Err, is_ok, refl, sym, ap, subst, ◌∙◌, arith}
+use Rattle.std.proofs.Common.{◌≡◌, ℕ, Bool, true, false, List, [], ◌∷◌, bytes_eq, codes, if◌then◌else◌, Ok, Err, refl}
 use Rattle.no_lex.specs.declared.token.Token.{Token}
 use Rattle.no_lex.specs.declared.token.TokenKind.{TokenKind}
 use Rattle.no_lex.specs.declared.token.TokenKind.TheVariants as kind
 use Rattle.no_ir.specs.declared.function.Role.{Role}
-use Rattle.no_grammar.specs.declared.fault.Flaw.{Flaw}
 use Rattle.no_grammar.specs.declared.fault.Flaw.TheVariants.{Syntax}
 use Rattle.no_grammar.specs.Numbers.{decimal}
-use Rattle.no_grammar.specs.Repeated.{repeat}
-use Rattle.no_grammar.specs.Rules.{Rule, plain, done, ◌>>=◌, if_next}
-use Rattle.no_grammar.specs.Spelled.{spelled, is_kind, is_sign, a_sign}
-use Rattle.no_attrs.specs.declared.attribute.Attribute.{Attribute}
+use Rattle.no_grammar.specs.Rules.{Rule, plain, done, ◌>>=◌}
+use Rattle.no_grammar.specs.Spelled.{spelled, is_kind, a_sign}
 use Rattle.no_attrs.specs.declared.attribute.Attribute.TheVariants as attribute
 use Rattle.no_attrs.specs.declared.attribute.AttributeHead.{AttributeHead}
 use Rattle.no_attrs.specs.declared.attribute.AttributeHead.TheVariants as head
-use Rattle.no_attrs.specs.declared.marks.Mark.{Mark}
-use Rattle.no_attrs.specs.Attributes.{aligned, alignment_of, begins_attribute, head_by, attribute_head, goes_on, align_tail, string_of, value_tail, after_head, an_attribute, more_attribute, all_attributes, all_go_on, behind_attributes, skip_attributes, all_marks, attribute_marks}
-use Rattle.no_attrs.specs.Brackets.{is_last, closes, to_close, bracketed}
-use Rattle.no_attrs.specs.Words.{is_attribute_word, is_record}
+use Rattle.no_attrs.specs.Attributes.{aligned, alignment_of, begins_attribute, head_by, attribute_head, goes_on, align_tail, string_of, value_tail, after_head, an_attribute, all_attributes, all_go_on, behind_attributes, skip_attributes, all_marks, attribute_marks}
+use Rattle.no_attrs.specs.Brackets.{bracketed}
+use Rattle.no_attrs.specs.Words.{is_attribute_word}
 use Rattle.no_scope.specs.declared.standing.Bracket.TheVariants as bracket
-use Rattle.no_scope.specs.Scan.{bracket_of}
 use Rattle.no_named.proofs.Marks.{IsSo, where_true, word_so, token_so, kind_token, integer_so, group_so, quoted_so}
-use Rattle.no_named.proofs.RuleMoves.{Runs, AllAt, plain_at, done_runs, then_runs, ahead_runs, if_next_runs, items_where_runs, sign_runs, opens_round}
-use Rattle.no_named.proofs.Spots.{at, Spot, Round, flat, Leads, Moves, moves_then, other_moves}
+use Rattle.no_named.proofs.RuleMoves.{Runs, plain_at, done_runs, then_runs, ahead_runs, if_next_runs, items_where_runs, sign_runs, opens_round}
+use Rattle.no_named.proofs.Spots.{flat, Moves, other_moves}
 use Rattle.no_named.proofs.Places.{curved}
 use Rattle.no_named.proofs.Groups.{close_moves}
 

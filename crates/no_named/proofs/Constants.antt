@@ -1,5 +1,5 @@
 -- What constants do to the scan.
-use Rattle.std.proofs.Common.{◌≡◌, ℕ, suc, zero, Bool, true, false, ◌&&◌, ◌==◌, ◌⊎◌, inl, inr, List, [], ◌∷◌, ◌++◌, bytes_eq, codes, if◌then◌else◌, Option, Some, None, Result, Ok, Err, is_ok, refl, sym, ap, subst, ◌∙◌}
+use Rattle.std.proofs.Common.{◌≡◌, ℕ, suc, zero, Bool, true, false, ◌&&◌, ◌==◌, inl, List, [], ◌∷◌, ◌++◌, codes, if◌then◌else◌, Option, Some, None, Result, Ok, Err, is_ok, refl, sym, ap, subst}
 use Rattle.no_lex.specs.declared.token.Token.{Token}
 use Rattle.no_lex.specs.declared.token.TokenKind.{TokenKind}
 use Rattle.no_lex.specs.declared.token.TokenKind.TheVariants as kind
@@ -9,13 +9,13 @@ use Rattle.no_ir.specs.declared.constant.Const.TheVariants as const
 use Rattle.no_grammar.specs.declared.fault.Flaw.{Flaw}
 use Rattle.no_grammar.specs.declared.fault.Flaw.TheVariants.{Syntax}
 use Rattle.no_grammar.specs.Lists.{items, closes_list}
-use Rattle.no_grammar.specs.Rules.{Rule, plain, done, ◌>>=◌, checked, choose, if_next}
+use Rattle.no_grammar.specs.Rules.{Rule, plain, done, ◌>>=◌, checked, choose}
 use Rattle.no_grammar.specs.Scope.{Meaning}
-use Rattle.no_grammar.specs.Spelled.{spelled, is_kind, is_sign, a_word, a_sign, only_where}
+use Rattle.no_grammar.specs.Spelled.{spelled, is_kind, is_sign, a_word, a_sign}
 use Rattle.no_grammar.specs.Types.{a_type, must_be}
 use Rattle.no_grammar.specs.Unescaped.{unescaped, inner}
 use Rattle.no_values.specs.Places.{width_of, number_at, a_place, begins_place}
-use Rattle.no_values.specs.Constants.{resolved, shape_of, element_in, fields_in, as_int, word_at, word_const, leaf_by, leaf_head, bracket_at, as_leaf, const_by, const_head, text_of, ptr_to_int, int_to_ptr, after_leaf, address, member, past, next_field, end_or, more_fields, some_fields, no_fields, fields, array_const, struct_const, packed_const, after_head, flat_const, bracket_const, a_const}
+use Rattle.no_values.specs.Constants.{resolved, shape_of, element_in, fields_in, as_int, word_const, leaf_by, leaf_head, bracket_at, as_leaf, const_by, const_head, text_of, ptr_to_int, int_to_ptr, after_leaf, address, member, past, next_field, end_or, more_fields, some_fields, no_fields, fields, array_const, struct_const, packed_const, after_head, flat_const, bracket_const, a_const}
 use Rattle.no_values.specs.declared.constants.Shape.{Shape}
 use Rattle.no_values.specs.declared.constants.Shape.TheVariants as shape
 use Rattle.no_values.specs.declared.constants.LeafHead.{LeafHead}
@@ -25,11 +25,11 @@ use Rattle.no_values.specs.declared.constants.ConstHead.TheVariants as head
 use Rattle.no_scope.specs.declared.standing.Bracket.{Bracket}
 use Rattle.no_scope.specs.declared.standing.Bracket.TheVariants as bracket
 use Rattle.no_scope.specs.Scan.{sign_bracket}
-use Rattle.no_named.proofs.Marks.{IsSo, from_flaw, where_true, only_true, word_so, sign_so, token_so, kind_token, integer_so, quoted_so, mark_so}
+use Rattle.no_named.proofs.Marks.{IsSo, from_flaw, where_true, word_so, sign_so, token_so, kind_token, integer_so, quoted_so, mark_so}
 use Rattle.no_named.proofs.RuleMoves.{Runs, AllAt, Until, plain_at, done_at, done_runs, then_at, then_runs, checked_runs, if_next_at, if_next_runs, some_item, closing, closes_at, behind_item, joined, items_run, anywhere, below, word_runs, sign_runs, sign_at, opens_round, closes_round, opens_brace, square_closing, brace_closing}
-use Rattle.no_named.proofs.Spots.{Spot, flat, deep, IsToken, Moves, moves_none, moves_then, other_moves, square_opens, brace_opens}
+use Rattle.no_named.proofs.Spots.{Spot, flat, deep, Moves, moves_none, moves_then, other_moves, square_opens, brace_opens}
 use Rattle.no_named.proofs.Types.{or_sign, type_runs}
-use Rattle.no_named.proofs.Places.{curved, no_truth, width_moves, number_moves, IsValue, value_moves, value_then, place_is, place_runs}
+use Rattle.no_named.proofs.Places.{curved, width_moves, number_moves, IsValue, value_moves, value_then, place_is, place_runs}
 
 -- ---- the token that begins a constant
 

@@ -1,27 +1,22 @@
 -- What the forms of instructions do to the scan.
-use Rattle.std.proofs.Common.{◌≡◌, ℕ, suc, zero, Bool, true, false, not, ◌&&◌, ◌||◌, List, [], ◌∷◌, ◌++◌, bytes_eq, codes, if◌then◌else◌, Option, Some, None, Result, Ok, Err, is_ok, refl, sym, ap, subst, ◌∙◌}
+use Rattle.std.proofs.Common.{◌≡◌, ℕ, suc, Bool, true, false, ◌&&◌, ◌||◌, List, [], ◌∷◌, bytes_eq, codes, Some, None, Ok, is_ok, refl, ap}
 use Rattle.no_lex.specs.declared.token.Token.{Token}
 use Rattle.no_lex.specs.declared.token.TokenKind.TheVariants as kind
 use Rattle.no_ir.specs.declared.types.Ty.{Ty}
 use Rattle.no_ir.specs.declared.types.Ty.TheVariants as ty
 use Rattle.no_ir.specs.declared.function.Role.{Role}
-use Rattle.no_ir.specs.declared.instruction.Operand.{Operand}
 use Rattle.no_ir.specs.declared.instruction.BinOp.{BinOp}
 use Rattle.no_ir.specs.declared.instruction.CastOp.{CastOp}
 use Rattle.no_ir.specs.declared.instruction.Pred.{Pred}
-use Rattle.no_ir.specs.declared.instruction.Op.{Op}
 use Rattle.no_ir.specs.declared.instruction.Op.TheVariants as op
-use Rattle.no_grammar.specs.declared.fault.Flaw.{Flaw}
 use Rattle.no_grammar.specs.Repeated.{repeat}
-use Rattle.no_grammar.specs.Rules.{Rule, plain, done, ◌>>=◌, lift, if_next, checked}
+use Rattle.no_grammar.specs.Rules.{plain, lift, if_next, checked}
 use Rattle.no_grammar.specs.Scope.{Meaning}
 use Rattle.no_grammar.specs.Spelled.{spelled, is_kind, is_word, is_sign, a_sign}
 use Rattle.no_values.specs.Places.{width_of, number_at, is_flag}
-use Rattle.no_locals.specs.declared.locals.Locals.{Locals}
 use Rattle.no_locals.specs.Numbered.{a_label, a_label_name}
 use Rattle.no_forms.specs.declared.operands.Flags.{Flags}
 use Rattle.no_forms.specs.declared.operands.Flags.TheVariants as flags
-use Rattle.no_forms.specs.declared.ends.Listed.{Listed}
 use Rattle.no_forms.specs.declared.memory.AllocaEnd.{AllocaEnd}
 use Rattle.no_forms.specs.Operands.{word, sign, some_type, this_type, a_width, an_operand, a_pointer, sized_operand, is_flag_word}
 use Rattle.no_forms.specs.Ends.{is_comma, an_alignment, an_attachment, listed}
@@ -29,8 +24,7 @@ use Rattle.no_forms.specs.Folded.{folded}
 use Rattle.no_forms.specs.Simple.{binary_flags, binary_parts, binary, cast_flags, cast_parts, cast_form, pred_word, pred_of, compare_parts, compare, freeze, select}
 use Rattle.no_forms.specs.Memory.{is_volatile, load_parts, volatile_load, load, store_parts, volatile_store, store, address_parts, address, opens_alignment, opens_count, stated_alignment, stated_count, alloca_attachment, count_or_attachment, alloca_step, alloca_start, alloca}
 use Rattle.no_forms.specs.Flow.{return_void, return_value, ret, branch, branch_if, br, same_width, a_case, no_case, one_case, more_case, switch, a_pair, phi}
-use Rattle.no_scope.specs.declared.standing.Bracket.TheVariants as bracket
-use Rattle.no_named.proofs.Marks.{both, where_true, word_token, a_word_token}
+use Rattle.no_named.proofs.Marks.{where_true, word_token, a_word_token}
 use Rattle.no_named.proofs.RuleMoves.{Runs, AllAt, Until, plain_at, done_runs, lift_runs, then_runs, checked_runs, if_next_at, if_next_runs, some_map, none_until, repeat_runs, behind_runs, anywhere, below, opens_square, closes_square}
 use Rattle.no_named.proofs.Spots.{Spot, Here, flat, deep, Moves, moves_anywhere, other_moves}
 use Rattle.no_named.proofs.Places.{flag_moves, width_moves, number_moves}

@@ -1,19 +1,17 @@
 -- What a global variable does to the scan.
-use Rattle.std.proofs.Common.{◌≡◌, ℕ, suc, zero, Bool, true, false, not, ◌&&◌, ◌||◌, ◌⊎◌, inl, inr, List, [], ◌∷◌, ◌++◌, bytes_eq, length, nat_lt, drop, codes, if◌then◌else◌, Option, Some, None, Result, Ok, Err, refl, sym, ap, subst, ◌∙◌, append_assoc}
+use Rattle.std.proofs.Common.{◌≡◌, ℕ, Bool, true, false, not, ◌&&◌, ◌||◌, ◌⊎◌, inl, inr, List, [], ◌∷◌, ◌++◌, bytes_eq, length, nat_lt, codes, if◌then◌else◌, Some, None, Ok, Err, refl, sym, ap, subst, ◌∙◌, append_assoc}
 use Rattle.no_lex.specs.declared.token.Token.{Token}
 use Rattle.no_lex.specs.declared.token.TokenKind.TheVariants as kind
 use Rattle.no_ir.specs.declared.types.Ty.{Ty}
 use Rattle.no_ir.specs.declared.constant.Const.{Const}
 use Rattle.no_ir.specs.declared.function.GlobalVar.{GlobalVar}
 use Rattle.no_ir.specs.Naming.{with_name}
-use Rattle.no_grammar.specs.declared.fault.Flaw.{Flaw}
 use Rattle.no_grammar.specs.declared.fault.Flaw.TheVariants.{Syntax}
 use Rattle.no_grammar.specs.Repeated.{IsRepeated, repeat}
 use Rattle.no_grammar.specs.Rules.{Rule, plain, done, ◌>>=◌, next_is, Avoids}
 use Rattle.no_grammar.specs.Scope.{Meaning}
-use Rattle.no_grammar.specs.Spelled.{kind_number, spelled, is_kind, is_word, is_sign, a_sign, only_where}
+use Rattle.no_grammar.specs.Spelled.{spelled, is_kind, is_word, is_sign, a_sign, only_where}
 use Rattle.no_grammar.specs.Types.{a_type}
-use Rattle.no_grammar.specs.Unescaped.{name_of}
 use Rattle.no_values.specs.Constants.{a_const}
 use Rattle.no_values.specs.Skipped.{behind}
 use Rattle.no_attrs.specs.Attributes.{alignment_of, string_of}
@@ -22,14 +20,13 @@ use Rattle.no_attrs.specs.Words.{is_node, is_one}
 use Rattle.no_globals.specs.declared.globals.TailHead.{TailHead}
 use Rattle.no_globals.specs.declared.globals.TailHead.TheVariants.{Align, Section, Attachment}
 use Rattle.no_globals.specs.Globals.{symbol_name, linkage_words, visibility_words, is_idle, constant_of, is_metadata, metadata_of, tail_head, after_tail_head, a_tail, is_comma, more_tail, last_of, tails, a_global}
-use Rattle.no_scope.specs.declared.standing.Bracket.TheVariants as bracket
 use Rattle.no_scope.specs.declared.symbols.Symbols.{Symbols}
 use Rattle.no_scope.specs.Scan.{symbols_from}
 use Rattle.no_named.proofs.Marks.{both, spells, where_true, only_true, word_token, a_word_token, a_sign_token, meta_token, other_than}
-use Rattle.no_named.proofs.RuleMoves.{Runs, AllAt, plain_at, done_at, done_runs, then_at, then_runs, repeat_runs, behind_runs, more_where_runs, anywhere, sign_runs}
-use Rattle.no_named.proofs.Spots.{at, flat, IsToken, Moves, moves_none, moves_then, other_moves}
+use Rattle.no_named.proofs.RuleMoves.{Runs, AllAt, plain_at, done_at, done_runs, then_at, then_runs, repeat_runs, behind_runs, more_where_runs, sign_runs}
+use Rattle.no_named.proofs.Spots.{at, flat, Moves, moves_none, moves_then, other_moves}
 use Rattle.no_named.proofs.Types.{type_runs}
-use Rattle.no_named.proofs.Places.{IsBare, IsValue}
+use Rattle.no_named.proofs.Places.{IsValue}
 use Rattle.no_named.proofs.Constants.{const_is}
 use Rattle.no_named.proofs.Attributes.{alignment_moves, string_moves}
 use Rattle.no_named.proofs.Heads.{name_is, global_named, global_used}
@@ -64,9 +61,6 @@ module _ {S A : Type 0} (test : Token → Bool) (item : Rule S A) where
 module _ (text : List ℕ) where
   abbrev pub equals : Token → Bool
   equals = is_sign text (codes "=")
-
-  listed_words : (a b c : Bool) → (a && (b || c)) ≡ true → (a ≡ true) × ((b || c) ≡ true)
-  listed_words a b c e = both a (b || c) e
 
   idle_moves : (t : Token) → is_idle text t ≡ true → Moves text flat flat (t ∷ [])
   idle_moves t e =

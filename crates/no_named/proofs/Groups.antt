@@ -1,18 +1,18 @@
 -- What brackets with anything between them do to the scan.
-use Rattle.std.proofs.Common.{◌≡◌, ℕ, suc, zero, ◌+◌, ◌-◌, Bool, true, false, ◌&&◌, ◌==◌, List, [], ◌∷◌, ◌++◌, nat_lt, bytes_eq, codes, if◌then◌else◌, refl, sym, ap, subst, ◌∙◌, arith}
+use Rattle.std.proofs.Common.{◌≡◌, ℕ, suc, zero, ◌+◌, ◌-◌, Bool, true, false, ◌&&◌, ◌==◌, List, [], ◌∷◌, bytes_eq, codes, if◌then◌else◌, refl, sym, ap, subst, ◌∙◌, arith}
 use Rattle.std.proofs.Math.Dec.{eqb-suc-zero}
 use Rattle.std.proofs.lemmas.Bool.{eqb-true}
 use Rattle.no_lex.specs.declared.token.Token.{Token}
 use Rattle.no_lex.specs.declared.token.TokenKind.{TokenKind}
 use Rattle.no_lex.specs.declared.token.TokenKind.TheVariants as kind
-use Rattle.no_grammar.specs.Spelled.{kind_number, spelled, is_kind, is_sign}
+use Rattle.no_grammar.specs.Spelled.{kind_number, spelled, is_sign}
 use Rattle.no_attrs.specs.Brackets.{is_last, closes}
 use Rattle.no_scope.specs.declared.standing.Bracket.{Bracket}
 use Rattle.no_scope.specs.declared.standing.Bracket.TheVariants as bracket
 use Rattle.no_scope.specs.declared.standing.Standing.{Standing}
 use Rattle.no_scope.specs.Scan.{bracket_by, bracket_of, rounds_after, braces_after, is_outer}
 use Rattle.no_named.proofs.Marks.{a_sign_token}
-use Rattle.no_named.proofs.Spots.{at, Spot, Here, Round, flat, Leads, leads_then, Moves, behind_bracket, enclosed, inner, to, in_rounds, some, more, less}
+use Rattle.no_named.proofs.Spots.{at, Round, flat, Leads, leads_then, Moves, behind_bracket, enclosed, inner, to, in_rounds, some, more, less}
 
 -- ---- any brackets that are counted
 
@@ -111,13 +111,13 @@ module _ (text : List ℕ) where
     rounds n = at n d w
 
     round_step : (t : Token) (k n : ℕ) → rounds_after (bracket_of text t) (suc k) ≡ n → Leads text (t ∷ []) (rounds (suc k)) (rounds n)
-    round_step t k n e = to text t (rounds (suc k)) (rounds n) (bracket_of text t) refl (enclosed text t (rounds (suc k)) (inner text k d w)) (in_rounds text (bracket_of text t) k d w ∙ ap rounds e)
+    round_step t k n e = to text t (rounds (suc k)) (rounds n) (bracket_of text t) refl (enclosed text t (rounds (suc k)) (inner k d w)) (in_rounds (bracket_of text t) k d w ∙ ap rounds e)
 
     round_up : (t : Token) (k : ℕ) → is_sign text (codes "(") t ≡ true → Leads text (t ∷ []) (rounds (suc k)) (rounds (suc (suc k)))
-    round_up t k e = round_step t k (suc (suc k)) (ap (λ (b : Bracket). rounds_after b (suc k)) (a_sign_token text (codes "(") t e).is_bracket ∙ more text (suc k))
+    round_up t k e = round_step t k (suc (suc k)) (ap (λ (b : Bracket). rounds_after b (suc k)) (a_sign_token text (codes "(") t e).is_bracket ∙ more (suc k))
 
     round_down : (t : Token) (k : ℕ) → is_sign text (codes ")") t ≡ true → Leads text (t ∷ []) (rounds (suc k)) (rounds k)
-    round_down t k e = round_step t k k (ap (λ (b : Bracket). rounds_after b (suc k)) (a_sign_token text (codes ")") t e).is_bracket ∙ less text k)
+    round_down t k e = round_step t k k (ap (λ (b : Bracket). rounds_after b (suc k)) (a_sign_token text (codes ")") t e).is_bracket ∙ less k)
 
     round_stay : (t : Token) (k : ℕ) → is_sign text (codes "(") t ≡ false → is_sign text (codes ")") t ≡ false → Leads text (t ∷ []) (rounds (suc k)) (rounds (suc k))
     round_stay t k p q = round_step t k (suc k) (round_stays t.kind (spelled text t) (suc k) p q)
@@ -141,17 +141,17 @@ module _ (text : List ℕ) where
     nested : (k : ℕ) → is_outer (braces (suc k)) ≡ false
     nested k = rw (eqb-suc-zero k) refl
 
-    in_braces : (b : Bracket) (k : ℕ) → behind_bracket text b (braces (suc k)) ≡ braces (braces_after b (suc k))
-    in_braces b k = rw (some text k) refl
+    in_braces : (b : Bracket) (k : ℕ) → behind_bracket b (braces (suc k)) ≡ braces (braces_after b (suc k))
+    in_braces b k = rw (some k) refl
 
     brace_step : (t : Token) (k n : ℕ) → braces_after (bracket_of text t) (suc k) ≡ n → Leads text (t ∷ []) (braces (suc k)) (braces n)
     brace_step t k n e = to text t (braces (suc k)) (braces n) (bracket_of text t) refl (enclosed text t (braces (suc k)) (nested k)) (in_braces (bracket_of text t) k ∙ ap braces e)
 
     brace_up : (t : Token) (k : ℕ) → is_sign text (codes "{") t ≡ true → Leads text (t ∷ []) (braces (suc k)) (braces (suc (suc k)))
-    brace_up t k e = brace_step t k (suc (suc k)) (ap (λ (b : Bracket). braces_after b (suc k)) (a_sign_token text (codes "{") t e).is_bracket ∙ more text (suc k))
+    brace_up t k e = brace_step t k (suc (suc k)) (ap (λ (b : Bracket). braces_after b (suc k)) (a_sign_token text (codes "{") t e).is_bracket ∙ more (suc k))
 
     brace_down : (t : Token) (k : ℕ) → is_sign text (codes "}") t ≡ true → Leads text (t ∷ []) (braces (suc k)) (braces k)
-    brace_down t k e = brace_step t k k (ap (λ (b : Bracket). braces_after b (suc k)) (a_sign_token text (codes "}") t e).is_bracket ∙ less text k)
+    brace_down t k e = brace_step t k k (ap (λ (b : Bracket). braces_after b (suc k)) (a_sign_token text (codes "}") t e).is_bracket ∙ less k)
 
     brace_stay : (t : Token) (k : ℕ) → is_sign text (codes "{") t ≡ false → is_sign text (codes "}") t ≡ false → Leads text (t ∷ []) (braces (suc k)) (braces (suc k))
     brace_stay t k p q = brace_step t k (suc k) (brace_stays t.kind (spelled text t) (suc k) p q)

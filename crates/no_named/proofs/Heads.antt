@@ -1,5 +1,5 @@
 -- What the head of a function does to the scan.
-use Rattle.std.proofs.Common.{◌≡◌, ℕ, suc, zero, Bool, true, false, List, [], ◌∷◌, ◌++◌, bytes_eq, drop, codes, if◌then◌else◌, Option, Some, None, Result, Ok, Err, refl, sym, ap, subst, ◌∙◌, append_assoc}
+use Rattle.std.proofs.Common.{◌≡◌, ℕ, Bool, true, false, List, [], ◌∷◌, ◌++◌, drop, codes, Option, Some, None, Ok, refl, sym, ap, subst, ◌∙◌, append_assoc}
 use Rattle.no_lex.specs.declared.token.Token.{Token}
 use Rattle.no_lex.specs.declared.token.TokenKind.TheVariants as kind
 use Rattle.no_ir.specs.declared.types.Ty.{Ty}
@@ -7,14 +7,13 @@ use Rattle.no_ir.specs.declared.types.Ty.TheVariants as ty
 use Rattle.no_ir.specs.declared.function.Role.{Role}
 use Rattle.no_ir.specs.Naming.{with_name}
 use Rattle.no_grammar.specs.Lists.{items}
-use Rattle.no_grammar.specs.Rules.{Rule, plain, done, ◌>>=◌, lift, next_is, choose, if_next, maybe}
+use Rattle.no_grammar.specs.Rules.{Rule, plain, done, ◌>>=◌, lift, next_is, maybe}
 use Rattle.no_grammar.specs.Scope.{Meaning}
 use Rattle.no_grammar.specs.Spelled.{spelled, is_kind, is_word, is_sign, a_word, a_sign, only_where}
 use Rattle.no_grammar.specs.Types.{a_type}
 use Rattle.no_grammar.specs.Unescaped.{name_of}
-use Rattle.no_attrs.specs.Attributes.{behind_attributes, skip_attributes, attribute_marks}
+use Rattle.no_attrs.specs.Attributes.{skip_attributes}
 use Rattle.no_globals.specs.Globals.{symbol_name}
-use Rattle.no_locals.specs.declared.locals.Locals.{Locals}
 use Rattle.no_locals.specs.Numbered.{a_definition, no_name}
 use Rattle.no_heads.specs.declared.heads.Head.{Head}
 use Rattle.no_heads.specs.Heads.{any_name, or_no_name, own_name, place_name, param_name, a_param, params, result_type, words_type, head_marks, a_head}
@@ -23,7 +22,7 @@ use Rattle.no_scope.specs.declared.symbols.Symbols.{Symbols}
 use Rattle.no_scope.specs.Scan.{bracket_of, symbols_from}
 use Rattle.no_named.proofs.Marks.{from_flaw, where_true, only_true, kind_token, local_so, no_bracket}
 use Rattle.no_named.proofs.RuleMoves.{Runs, AllAt, plain_at, done_at, done_runs, lift_at, lift_runs, then_at, then_runs, if_next_runs, choose_at, maybe_runs, items_run, anywhere, word_runs, opens_round, round_closing}
-use Rattle.no_named.proofs.Spots.{at, Spot, flat, Leads, Moves, moves_none, moves_then, other_moves}
+use Rattle.no_named.proofs.Spots.{at, flat, Moves, moves_none, moves_then, other_moves}
 use Rattle.no_named.proofs.Types.{type_runs}
 use Rattle.no_named.proofs.Places.{curved}
 use Rattle.no_named.proofs.Attributes.{skip_runs, marks_run, behind_attributes_runs}

@@ -1,27 +1,25 @@
 -- What instructions and blocks do to the scan.
-use Rattle.std.proofs.Common.{◌≡◌, ℕ, suc, zero, Bool, true, false, not, ◌&&◌, ◌||◌, List, [], ◌∷◌, ◌++◌, bytes_eq, codes, if◌then◌else◌, Option, Some, None, is_some, Result, Ok, Err, refl, sym, ap, subst, ◌∙◌}
+use Rattle.std.proofs.Common.{◌≡◌, ℕ, suc, Bool, true, false, not, ◌&&◌, List, [], ◌∷◌, codes, Option, Some, None, is_some, Ok, refl}
 use Rattle.no_lex.specs.declared.token.Token.{Token}
 use Rattle.no_lex.specs.declared.token.TokenKind.TheVariants as kind
 use Rattle.no_ir.specs.declared.types.Ty.{Ty}
 use Rattle.no_ir.specs.declared.types.Ty.TheVariants as ty
 use Rattle.no_ir.specs.declared.function.Role.{Role}
-use Rattle.no_ir.specs.declared.function.Block.{Block}
 use Rattle.no_ir.specs.declared.instruction.Instr.{Instr}
-use Rattle.no_ir.specs.declared.instruction.Op.{Op}
 use Rattle.no_ir.specs.declared.instruction.Op.TheVariants as op
 use Rattle.no_grammar.specs.Lists.{items}
 use Rattle.no_grammar.specs.Repeated.{repeat}
-use Rattle.no_grammar.specs.Rules.{Rule, plain, done, ◌>>=◌, lift, if_next}
+use Rattle.no_grammar.specs.Rules.{Rule, plain, lift, if_next}
 use Rattle.no_grammar.specs.Scope.{Meaning}
 use Rattle.no_grammar.specs.Spelled.{spelled, is_kind, is_word, a_sign}
 use Rattle.no_attrs.specs.Attributes.{all_attributes, all_go_on, skip_attributes}
 use Rattle.no_locals.specs.declared.locals.Locals.{Locals}
-use Rattle.no_locals.specs.Numbered.{a_definition, no_name, a_block_label, no_block_label}
+use Rattle.no_locals.specs.Numbered.{a_definition, a_block_label, no_block_label}
 use Rattle.no_forms.specs.Operands.{word, sign, some_type, an_operand}
-use Rattle.no_forms.specs.Ends.{end_mark, finish}
+use Rattle.no_forms.specs.Ends.{end_mark}
 use Rattle.no_forms.specs.Simple.{binary, cast_form, compare, freeze, select}
 use Rattle.no_forms.specs.Memory as memory
-use Rattle.no_forms.specs.Flow.{ret, br, switch, phi}
+use Rattle.no_forms.specs.Flow.{ret, br, switch}
 use Rattle.no_instr.specs.Calls.{result_of, behind_attributes, an_argument, call_parts, void_of, void_call, typed_call, call_type, call_form}
 use Rattle.no_instr.specs.Heads.{head_word, instr_head}
 use Rattle.no_instr.specs.Instructions.{giver_form, action_form, giving, acting, tail_call, after_instr_head, instr_body, named_instr, an_instr}
@@ -32,12 +30,10 @@ use Rattle.no_instr.specs.declared.heads.Action.TheVariants as action
 use Rattle.no_instr.specs.declared.heads.InstrHead.{InstrHead}
 use Rattle.no_instr.specs.declared.heads.InstrHead.TheVariants as head
 use Rattle.no_blocks.specs.Blocks.{is_close, is_label, blocks_of, closing, label_piece, instr_piece, labelled, unlabelled, a_piece, entry, body}
-use Rattle.no_blocks.specs.declared.blocks.Piece.{Piece}
 use Rattle.no_blocks.specs.declared.blocks.Piece.TheVariants as piece
-use Rattle.no_scope.specs.declared.standing.Bracket.TheVariants as bracket
 use Rattle.no_named.proofs.Marks.{both, where_true, only_true, a_word_token, no_bracket}
-use Rattle.no_named.proofs.RuleMoves.{Runs, AllAt, Until, plain_at, done_runs, lift_runs, then_runs, ahead_runs, if_next_at, if_next_runs, repeat_runs, items_run, some_until, none_until, some_map, anywhere, below, opens_round, closes_brace, round_closing}
-use Rattle.no_named.proofs.Spots.{Spot, Here, Round, flat, deep, Moves, moves_anywhere, other_moves, deep_moves}
+use Rattle.no_named.proofs.RuleMoves.{Runs, AllAt, Until, plain_at, done_runs, lift_runs, then_runs, ahead_runs, if_next_at, if_next_runs, repeat_runs, items_run, none_until, some_map, anywhere, below, opens_round, closes_brace, round_closing}
+use Rattle.no_named.proofs.Spots.{Spot, Round, flat, deep, Moves, moves_anywhere, other_moves, deep_moves}
 use Rattle.no_named.proofs.Attributes.{attributes_run, skip_runs}
 use Rattle.no_named.proofs.Operands.{word_at, equals_at, definition_runs, block_label_runs, no_label_runs, no_name_runs, some_type_runs, operand_runs, end_mark_runs, finish_runs, ended_runs}
 use Rattle.no_named.proofs.Forms.{binary_runs, cast_runs, compare_runs, freeze_runs, select_runs, load_runs, store_runs, address_runs, alloca_runs, ret_runs, br_runs, switch_runs, phi_runs}

@@ -1,5 +1,5 @@
 -- What tokens of each kind are to the scan.
-use Rattle.std.proofs.Common.{◌≡◌, ℕ, Bool, true, false, ◌&&◌, ◌||◌, ◌==◌, List, [], ◌∷◌, bytes_eq, codes, if◌then◌else◌, Option, Some, None, Result, Ok, Err, is_ok, is_some, refl, sym, ap, subst, ◌∙◌}
+use Rattle.std.proofs.Common.{◌≡◌, ℕ, Bool, true, false, ◌&&◌, ◌||◌, ◌==◌, List, bytes_eq, codes, if◌then◌else◌, Result, Ok, Err, refl, sym, ap, subst, ◌∙◌}
 use Rattle.std.proofs.lemmas.Bool.{eqb-true}
 use Rattle.std.proofs.lemmas.Slice.Eq.{bytes_eq-Decides}
 use Rattle.no_lex.specs.declared.token.Token.{Token}
@@ -10,7 +10,7 @@ use Rattle.no_grammar.specs.declared.fault.Flaw.TheVariants.{Syntax}
 use Rattle.no_grammar.specs.Spelled.{kind_number, spelled, is_kind, is_word, is_sign, only_where}
 use Rattle.no_scope.specs.declared.standing.Bracket.{Bracket}
 use Rattle.no_scope.specs.declared.standing.Bracket.TheVariants as bracket
-use Rattle.no_scope.specs.Scan.{sign_bracket, bracket_by, bracket_of, begins_function}
+use Rattle.no_scope.specs.Scan.{sign_bracket, bracket_by, bracket_of}
 use Rattle.no_named.proofs.Spots.{IsToken}
 
 -- ---- tests
@@ -20,9 +20,6 @@ okay x = Ok x
 
 pub from_flaw : {A : Type 0} (x y : A) → okay {B = Flaw} x ≡ okay y → x ≡ y
 from_flaw x y e = cc
-
-pub from_some : {A : Type 0} (x y : A) → Some x ≡ Some y → x ≡ y
-from_some x y e = cc
 
 pub both : (b c : Bool) → (b && c) ≡ true → (b ≡ true) × (c ≡ true)
 both true true e = (refl, refl)

@@ -1,5 +1,5 @@
 -- The scan finds exactly the names that the forms of a text define.
-use Rattle.std.proofs.Common.{◌≡◌, ℕ, Bool, true, false, ◌&&◌, ◌||◌, ◌==◌, ◌⊎◌, inl, inr, List, [], ◌∷◌, ◌++◌, bytes_eq, codes, Option, Some, None, map, refl, sym, ap, subst, ◌∙◌, append-nil}
+use Rattle.std.proofs.Common.{◌≡◌, ℕ, Bool, true, false, ◌&&◌, ◌==◌, ◌⊎◌, inl, inr, List, [], ◌∷◌, ◌++◌, bytes_eq, codes, Some, None, map, refl, sym, ap, subst, ◌∙◌, append-nil}
 use Rattle.std.specs.List.{fold}
 use Rattle.no_lex.specs.declared.token.Token.{Token}
 use Rattle.no_lex.specs.declared.token.TokenKind.{TokenKind}
@@ -8,16 +8,14 @@ use Rattle.no_ir.specs.declared.types.Ty.{Ty}
 use Rattle.no_ir.specs.declared.function.Role.{Role}
 use Rattle.no_ir.specs.declared.function.Module.{Module}
 use Rattle.no_ir.specs.Naming.{with_name}
-use Rattle.no_grammar.specs.Repeated.{IsRepeated}
-use Rattle.no_grammar.specs.Rules.{Rule, done, ◌>>=◌, next_is, Avoids}
+use Rattle.no_grammar.specs.Rules.{next_is, Avoids}
 use Rattle.no_grammar.specs.Scope.{Meaning}
 use Rattle.no_grammar.specs.Spelled.{kind_number, spelled}
-use Rattle.no_attrs.specs.Ending.{more_where}
 use Rattle.no_modules.specs.declared.groups.Settings.{Settings}
 use Rattle.no_modules.specs.declared.tops.Top.{Top}
 use Rattle.no_modules.specs.declared.tops.Top.TheVariants as top
 use Rattle.no_modules.specs.Grouping.{found_in, all_grouped, no_groups}
-use Rattle.no_modules.specs.Modules.{functions_in, globals_in, module_of, IsModuleOf}
+use Rattle.no_modules.specs.Modules.{functions_in, globals_in, IsModuleOf}
 use Rattle.no_modules.specs.Tops.{begins_top, a_top, more_tops, tops}
 use Rattle.no_scope.specs.declared.symbols.Symbols.{Symbols}
 use Rattle.no_scope.specs.Scan.{symbols_from, symbols_in}

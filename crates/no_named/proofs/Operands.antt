@@ -1,18 +1,15 @@
 -- What registers, labels, operands and the ends of instructions do to the scan.
-use Rattle.std.proofs.Common.{◌≡◌, ℕ, suc, zero, Bool, true, false, not, ◌&&◌, ◌||◌, List, [], ◌∷◌, ◌++◌, bytes_eq, take, drop, codes, if◌then◌else◌, Option, Some, None, Result, Ok, Err, refl, sym, ap, subst, ◌∙◌}
+use Rattle.std.proofs.Common.{◌≡◌, ℕ, suc, zero, Bool, true, false, not, ◌&&◌, ◌||◌, List, [], ◌∷◌, ◌++◌, bytes_eq, take, codes, Ok, refl, sym, subst}
 use Rattle.no_lex.specs.declared.token.Token.{Token}
 use Rattle.no_lex.specs.declared.token.TokenKind.TheVariants as kind
 use Rattle.no_ir.specs.declared.types.Ty.{Ty}
 use Rattle.no_ir.specs.declared.types.Ty.TheVariants as ty
 use Rattle.no_ir.specs.declared.function.Role.{Role}
 use Rattle.no_ir.specs.declared.instruction.Op.{Op}
-use Rattle.no_ir.specs.declared.instruction.Operand.{Operand}
 use Rattle.no_ir.specs.declared.instruction.Operand.TheVariants as operand
-use Rattle.no_grammar.specs.declared.fault.Flaw.{Flaw}
-use Rattle.no_grammar.specs.declared.fault.Flaw.TheVariants.{Syntax}
-use Rattle.no_grammar.specs.Rules.{Rule, one, plain, done, change, ◌>>=◌, lift, if_next, checked}
+use Rattle.no_grammar.specs.Rules.{Rule, plain, change, lift, if_next, checked}
 use Rattle.no_grammar.specs.Scope.{Meaning}
-use Rattle.no_grammar.specs.Spelled.{spelled, is_kind, is_word, a_word, a_sign}
+use Rattle.no_grammar.specs.Spelled.{spelled, is_kind, a_word, a_sign}
 use Rattle.no_grammar.specs.Types.{a_type, must_be}
 use Rattle.no_grammar.specs.Unescaped.{name_of}
 use Rattle.no_values.specs.Places.{width_of}
@@ -25,7 +22,6 @@ use Rattle.no_forms.specs.Operands.{DEPTH, word, sign, some_type, this_type, a_w
 use Rattle.no_forms.specs.Ends.{is_comma, an_alignment, names_node, is_node, node_is, marks, an_attachment, opens_alignment, end_alignment, end_attachment, end_step, ends, end_mark, finish, ended, opens_item, list_item, list_attachment, list_step, listed}
 use Rattle.no_forms.specs.declared.ends.Ending.{Ending}
 use Rattle.no_forms.specs.declared.ends.Listed.{Listed}
-use Rattle.no_scope.specs.declared.standing.Bracket.TheVariants as bracket
 use Rattle.no_named.proofs.Marks.{both, where_true, kind_token, local_so, label_so, meta_token}
 use Rattle.no_named.proofs.RuleMoves.{Runs, one_at, plain_at, done_runs, change_runs, lift_runs, then_runs, checked_runs, if_next_runs, anywhere, word_runs, sign_runs}
 use Rattle.no_named.proofs.Spots.{Spot, flat, deep, Moves, moves_none, moves_then, other_moves}

@@ -1,17 +1,14 @@
 -- What addresses and numbers do to the scan.
-use Rattle.std.proofs.Common.{◌≡◌, ℕ, suc, zero, Bool, true, false, ◌&&◌, ◌||◌, ◌==◌, ◌⊎◌, inl, inr, List, [], ◌∷◌, ◌++◌, drop, bytes_eq, codes, if◌then◌else◌, Option, Some, None, Result, Ok, Err, is_ok, refl, sym, ap, subst, ◌∙◌, append-nil}
+use Rattle.std.proofs.Common.{◌≡◌, ℕ, Bool, true, false, ◌&&◌, ◌||◌, ◌==◌, ◌⊎◌, inl, inr, List, [], ◌∷◌, ◌++◌, drop, bytes_eq, codes, if◌then◌else◌, Result, Ok, Err, is_ok, refl, sym, ap, subst, ◌∙◌, append-nil}
 use Rattle.no_lex.specs.declared.token.Token.{Token}
 use Rattle.no_lex.specs.declared.token.TokenKind.{TokenKind}
 use Rattle.no_lex.specs.declared.token.TokenKind.TheVariants as kind
-use Rattle.no_ir.specs.declared.types.Ty.TheVariants as ty
 use Rattle.no_ir.specs.declared.constant.Symbol.{Symbol}
-use Rattle.no_ir.specs.declared.constant.Place.{Place}
 use Rattle.no_grammar.specs.declared.fault.Flaw.{Flaw}
 use Rattle.no_grammar.specs.declared.fault.Flaw.TheVariants.{Syntax}
 use Rattle.no_grammar.specs.Lists.{more_item}
-use Rattle.no_grammar.specs.Numbers.{integer_at}
 use Rattle.no_grammar.specs.Repeated.{repeat}
-use Rattle.no_grammar.specs.Rules.{Rule, plain, done, ◌>>=◌}
+use Rattle.no_grammar.specs.Rules.{plain}
 use Rattle.no_grammar.specs.Scope.{Meaning}
 use Rattle.no_grammar.specs.Spelled.{spelled, is_kind, is_word, a_word, a_sign}
 use Rattle.no_grammar.specs.Types.{word_type, a_type}
@@ -19,11 +16,10 @@ use Rattle.no_grammar.specs.Unescaped.{name_of}
 use Rattle.no_values.specs.declared.places.PlaceHead.{PlaceHead}
 use Rattle.no_values.specs.declared.places.PlaceHead.TheVariants.{Bare, Gep}
 use Rattle.no_values.specs.Places.{symbol_of, symbol_named, int_width, width_of, truth_at, number_by, number_at, is_flag, an_index, indices, gep_parts, bare_or, place_head, after_place_head, a_place, with_sign}
-use Rattle.no_values.specs.Skipped.{behind}
 use Rattle.no_scope.specs.declared.standing.Bracket.TheVariants as bracket
 use Rattle.no_named.proofs.Marks.{IsSo, from_flaw, where_true, word_so, token_so, word_token, a_word_token, integer_so, no_bracket}
-use Rattle.no_named.proofs.RuleMoves.{Runs, AllAt, plain_at, done_at, done_runs, then_at, then_runs, behind_runs, repeat_runs, more_item_runs, anywhere, below, word_runs, sign_runs, opens_round, round_closing}
-use Rattle.no_named.proofs.Spots.{Spot, Here, Round, flat, deep, IsToken, Moves, moves_then, moves_anywhere, other_moves, deep_moves}
+use Rattle.no_named.proofs.RuleMoves.{Runs, AllAt, plain_at, done_runs, then_at, then_runs, behind_runs, repeat_runs, more_item_runs, anywhere, below, word_runs, sign_runs, opens_round, round_closing}
+use Rattle.no_named.proofs.Spots.{Spot, Round, flat, deep, Moves, moves_then, moves_anywhere, other_moves, deep_moves}
 use Rattle.no_named.proofs.Types.{type_runs}
 
 -- inside the parentheses of what stands at the outer level or anywhere
@@ -38,7 +34,6 @@ three_words false p q r e = absurd cc
 
 pub flag_moves : (text : List ℕ) (t : Token) → is_flag text t ≡ true → Moves text flat flat (t ∷ [])
 flag_moves text t e =
-    let x = spelled text t in
     let k = three_words (is_kind kind.Word t) (bytes_eq (spelled text t) (codes "inbounds")) (bytes_eq (spelled text t) (codes "nusw")) (bytes_eq (spelled text t) (codes "nuw")) e in
     other_moves text t (word_token text t (λ w. bytes_eq w (codes "inbounds") || bytes_eq w (codes "nusw") || bytes_eq w (codes "nuw")) refl refl k.0 k.1)
 

@@ -1,16 +1,15 @@
 -- What the tokens of a rule do to the scan, for each way to make a rule.
-use Rattle.std.proofs.Common.{◌≡◌, ℕ, suc, zero, Bool, true, false, ◌&&◌, List, [], ◌∷◌, ◌++◌, bytes_eq, codes, if◌then◌else◌, Option, Some, None, Result, Ok, Err, inl, inr, refl, sym, ap, subst, ◌∙◌}
+use Rattle.std.proofs.Common.{◌≡◌, ℕ, suc, Bool, true, false, List, [], ◌∷◌, ◌++◌, bytes_eq, codes, if◌then◌else◌, Option, Some, None, Result, Ok, Err, inl, inr, refl, sym, ap, subst}
 use Rattle.std.specs.List.{list_all}
 use Rattle.no_lex.specs.declared.token.Token.{Token}
 use Rattle.no_grammar.specs.declared.fault.Flaw.{Flaw}
 use Rattle.no_grammar.specs.declared.fault.Flaw.TheVariants.{Syntax}
 use Rattle.no_grammar.specs.Lists.{closes_list, more_item, some_items, no_items, items}
-use Rattle.no_grammar.specs.Repeated.{IsRepeated, repeat}
-use Rattle.no_grammar.specs.Rules.{Rule, IsOne, one, keeping, plain, done, change, ◌>>=◌, lift, next_is, choose, if_next, maybe, checked}
+use Rattle.no_grammar.specs.Repeated.{repeat}
+use Rattle.no_grammar.specs.Rules.{Rule, one, keeping, plain, done, change, ◌>>=◌, lift, choose, if_next, maybe, checked}
 use Rattle.no_grammar.specs.Spelled.{is_word, is_sign, a_word, a_sign, only_where}
 use Rattle.no_values.specs.Skipped.{behind}
 use Rattle.no_attrs.specs.Ending.{ahead, more_where, items_where}
-use Rattle.no_scope.specs.declared.standing.Bracket.{Bracket}
 use Rattle.no_scope.specs.declared.standing.Bracket.TheVariants as bracket
 use Rattle.no_scope.specs.Scan.{sign_bracket}
 use Rattle.no_named.proofs.Marks.{from_flaw, both, only_true, a_word_token, a_sign_token}

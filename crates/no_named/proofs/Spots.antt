@@ -1,5 +1,5 @@
 -- Where the scan stands, and what tokens do to it.
-use Rattle.std.proofs.Common.{◌≡◌, ℕ, suc, zero, ◌+◌, ◌-◌, Bool, true, false, ◌&&◌, ◌||◌, ◌==◌, nat_lt, List, [], ◌∷◌, ◌++◌, if◌then◌else◌, refl, sym, ap, subst, ◌∙◌, append_assoc, arith}
+use Rattle.std.proofs.Common.{◌≡◌, ℕ, suc, ◌+◌, ◌-◌, Bool, true, false, nat_lt, List, [], ◌∷◌, ◌++◌, refl, ap, subst, ◌∙◌, append_assoc, arith}
 use Rattle.std.proofs.Math.Dec.{eqb-suc-zero}
 use Rattle.std.proofs.lemmas.Bool.{lt-ltb}
 use Rattle.no_lex.specs.declared.token.Token.{Token}
@@ -47,6 +47,31 @@ abbrev pub sunk : Spot → Spot
 sunk (Here k) = Here (λ d. suc (k d))
 sunk (Round k) = Round k
 
+-- ---- standings
+
+-- where a bracket leads
+abbrev pub behind_bracket : Bracket → Standing → Standing
+behind_bracket b s = record (moved b s) { awaits = s.awaits }
+
+-- inside parentheses, and inside other brackets
+pub inner : (n d : ℕ) (w : Bool) → is_outer (at (suc n) d w) ≡ false
+inner n d w = rw (eqb-suc-zero n) refl
+
+below : (d : ℕ) (w : Bool) → is_outer (at 0 (suc d) w) ≡ false
+below d w = rw (eqb-suc-zero d) refl
+
+pub some : (n : ℕ) → nat_lt 0 (suc n) ≡ true
+some n = lt-ltb 0 (suc n) (omega arith)
+
+pub in_rounds : (b : Bracket) (n d : ℕ) (w : Bool) → behind_bracket b (at (suc n) d w) ≡ at (rounds_after b (suc n)) d w
+in_rounds b n d w = rw (some n) refl
+
+pub more : (n : ℕ) → n + 1 ≡ suc n
+more n = omega arith
+
+pub less : (n : ℕ) → suc n - 1 ≡ n
+less n = omega arith
+
 module _ (text : List ℕ) where
   -- the tokens lead from one standing to another and name nothing, whatever follows them
   abbrev pub Leads : List Token → Standing → Standing → Type 0
@@ -55,6 +80,7 @@ module _ (text : List ℕ) where
   pub leads_then : (u v : List Token) (a b c : Standing) → Leads u a b → Leads v b c → Leads (u ++ v) a c
   leads_then u v a b c p q = λ rest y. ap (λ (l : List Token). symbols_from text l a y) (append_assoc u v rest) ∙ p (v ++ rest) y ∙ q rest y
 
+  -- the tokens lead from these open brackets to those, inside any further ones
   pub record Moves (a b : Spot) (used : List Token) : Type 0 where
     pub outside : (d : ℕ) (w : Bool) → Leads used (at (rounds_at a 0) (depth_at a d) w) (at (rounds_at b 0) (depth_at b d) w)
     pub inside : (n d : ℕ) (w : Bool) → Leads used (at (rounds_at a (suc n)) d w) (at (rounds_at b (suc n)) d w)
@@ -82,9 +108,6 @@ module _ (text : List ℕ) where
   abbrev pub behind_token : Token → Standing → Standing
   behind_token t s = record (moved (bracket_of text t) s) { awaits = s.awaits }
 
-  abbrev pub behind_bracket : Bracket → Standing → Standing
-  behind_bracket b s = record (moved b s) { awaits = s.awaits }
-
   pub enclosed : (t : Token) (s : Standing) → is_outer s ≡ false → Leads (t ∷ []) s (behind_token t s)
   enclosed t s e = λ rest y. go rest y
     where
@@ -97,18 +120,6 @@ module _ (text : List ℕ) where
       go : (rest : List Token) (y : Symbols) (b : Bool) → is_outer s ≡ b → symbols_from text (t ∷ rest) s y ≡ symbols_from text rest (behind_token t s) y
       go rest y true e = rw (e, g, f) refl
       go rest y false e = rw e refl
-
-  pub inner : (n d : ℕ) (w : Bool) → is_outer (at (suc n) d w) ≡ false
-  inner n d w = rw (eqb-suc-zero n) refl
-
-  below : (d : ℕ) (w : Bool) → is_outer (at 0 (suc d) w) ≡ false
-  below d w = rw (eqb-suc-zero d) refl
-
-  pub some : (n : ℕ) → nat_lt 0 (suc n) ≡ true
-  some n = lt-ltb 0 (suc n) (omega arith)
-
-  pub in_rounds : (b : Bracket) (n d : ℕ) (w : Bool) → behind_bracket b (at (suc n) d w) ≡ at (rounds_after b (suc n)) d w
-  in_rounds b n d w = rw (some n) refl
 
   -- where a token leads, by its bracket
   pub to : (t : Token) (s u : Standing) (b : Bracket) → bracket_of text t ≡ b → Leads (t ∷ []) s (behind_token t s) → behind_bracket b s ≡ u → Leads (t ∷ []) s u
@@ -131,12 +142,6 @@ module _ (text : List ℕ) where
     outside = λ d w. to t (at 0 (suc d) w) (at 0 (suc d) w) bracket.Other e (enclosed t (at 0 (suc d) w) (below d w)) refl;
     inside = λ n d w. to t (at (suc n) d w) (at (suc n) d w) bracket.Other e (enclosed t (at (suc n) d w) (inner n d w)) (in_rounds bracket.Other n d w);
   }
-
-  pub more : (n : ℕ) → n + 1 ≡ suc n
-  more n = omega arith
-
-  pub less : (n : ℕ) → suc n - 1 ≡ n
-  less n = omega arith
 
   pub square_opens : (k : ℕ → ℕ) (t : Token) → IsToken text t bracket.OpenSquare → Moves (Here k) (Here (λ d. suc (k d))) (t ∷ [])
   square_opens k t i = moves_by (Here k) (Here (λ d. suc (k d))) t bracket.OpenSquare i (λ d w. ap (λ (x : ℕ). at 0 x w) (more (k d))) (λ n d w. in_rounds bracket.OpenSquare n d w)

@@ -1,22 +1,19 @@
 -- What the forms at the top of a text do to the scan.
-use Rattle.std.proofs.Common.{◌≡◌, ℕ, suc, zero, Bool, true, false, not, ◌&&◌, ◌||◌, ◌==◌, ◌⊎◌, inl, inr, List, [], ◌∷◌, ◌++◌, bytes_eq, drop, codes, if◌then◌else◌, Option, Some, None, Result, Ok, Err, is_ok, map, refl, sym, ap, subst, ◌∙◌, append_assoc, append-nil}
+use Rattle.std.proofs.Common.{◌≡◌, ℕ, Bool, true, false, not, ◌&&◌, ◌||◌, ◌==◌, List, [], ◌∷◌, ◌++◌, bytes_eq, codes, if◌then◌else◌, Option, Some, None, Ok, Err, refl, sym, ap, subst, ◌∙◌, append_assoc, append-nil}
 use Rattle.no_lex.specs.declared.token.Token.{Token}
 use Rattle.no_lex.specs.declared.token.TokenKind.{TokenKind}
 use Rattle.no_lex.specs.declared.token.TokenKind.TheVariants as kind
-use Rattle.no_ir.specs.declared.types.Ty.{Ty}
 use Rattle.no_ir.specs.declared.function.Role.{Role}
 use Rattle.no_ir.specs.declared.function.Block.{Block}
 use Rattle.no_ir.specs.declared.function.GlobalVar.{GlobalVar}
 use Rattle.no_ir.specs.Naming.{with_name}
-use Rattle.no_grammar.specs.declared.fault.Flaw.{Flaw}
 use Rattle.no_grammar.specs.declared.fault.Flaw.TheVariants.{Syntax}
-use Rattle.no_grammar.specs.Rules.{Rule, one, plain, done, ◌>>=◌, lift, next_is, maybe, if_next, Avoids}
+use Rattle.no_grammar.specs.Rules.{Rule, one, plain, done, ◌>>=◌, lift, maybe, if_next, Avoids}
 use Rattle.no_grammar.specs.Scope.{Meaning}
 use Rattle.no_grammar.specs.Spelled.{kind_number, spelled, is_kind, is_word, is_sign, a_word, a_sign, only_where}
 use Rattle.no_attrs.specs.Attributes.{string_of, attribute_marks}
-use Rattle.no_attrs.specs.Brackets.{to_close, bracketed}
+use Rattle.no_attrs.specs.Brackets.{bracketed}
 use Rattle.no_attrs.specs.Words.{is_record}
-use Rattle.no_attrs.specs.declared.marks.Mark.{Mark}
 use Rattle.no_globals.specs.Globals.{metadata_of, a_global}
 use Rattle.no_heads.specs.Heads.{a_head}
 use Rattle.no_heads.specs.declared.heads.Head.{Head}
@@ -31,15 +28,14 @@ use Rattle.no_modules.specs.declared.tops.Top.TheVariants as top
 use Rattle.no_modules.specs.declared.tops.TopWord.{TopWord}
 use Rattle.no_modules.specs.declared.tops.TopWord.TheVariants as begins
 use Rattle.no_modules.specs.Functions.{head_body, written, a_function}
-use Rattle.no_modules.specs.Tops.{word_of, word_at, or_syntax, top_word, is_top_word, source_top, layout_top, target_top, function_top, declared, declared_top, group_top, global_top, node_top, after_word, worded, a_top}
-use Rattle.no_scope.specs.declared.standing.Bracket.{Bracket}
+use Rattle.no_modules.specs.Tops.{word_of, or_syntax, top_word, source_top, layout_top, target_top, function_top, declared, declared_top, group_top, global_top, node_top, after_word, worded, a_top}
 use Rattle.no_scope.specs.declared.standing.Bracket.TheVariants as bracket
 use Rattle.no_scope.specs.declared.standing.Standing.{Standing}
 use Rattle.no_scope.specs.declared.symbols.Symbols.{Symbols}
 use Rattle.no_scope.specs.Scan.{bracket_by, bracket_of, symbols_from}
-use Rattle.no_named.proofs.Marks.{from_flaw, from_some, both, spells, kind_is, where_true, only_true, kind_token, group_so, word_token, a_word_token, a_sign_token, no_bracket}
+use Rattle.no_named.proofs.Marks.{from_flaw, both, spells, kind_is, where_true, only_true, kind_token, group_so, a_word_token, a_sign_token}
 use Rattle.no_named.proofs.RuleMoves.{Runs, AllAt, one_at, plain_at, done_at, done_runs, lift_at, lift_runs, then_at, then_runs, if_next_at, maybe_runs, anywhere, word_runs, sign_runs, opens_brace, closes_brace}
-use Rattle.no_named.proofs.Spots.{at, flat, deep, Leads, leads_then, IsToken, Moves, moves_none, moves_then, behind_token, behind_bracket, mild, to, other_moves}
+use Rattle.no_named.proofs.Spots.{at, flat, deep, Leads, leads_then, Moves, moves_none, moves_then, mild, to, other_moves}
 use Rattle.no_named.proofs.Groups.{braces, brace_leads}
 use Rattle.no_named.proofs.Attributes.{string_moves, marks_run}
 use Rattle.no_named.proofs.Instructions.{instr_runs, blocks_run}

@@ -1,5 +1,5 @@
 -- What types do to the scan.
-use Rattle.std.proofs.Common.{◌≡◌, ℕ, suc, zero, Bool, true, false, List, [], ◌∷◌, ◌++◌, bytes_eq, codes, if◌then◌else◌, Option, Some, None, Result, Ok, Err, is_ok, refl, sym, ap, subst, ◌∙◌}
+use Rattle.std.proofs.Common.{◌≡◌, ℕ, suc, zero, Bool, true, false, List, [], ◌∷◌, bytes_eq, codes, if◌then◌else◌, Option, Some, None, Result, Ok, Err, is_ok, refl, sym, ap, subst, ◌∙◌}
 use Rattle.no_lex.specs.declared.token.Token.{Token}
 use Rattle.no_lex.specs.declared.token.TokenKind.{TokenKind}
 use Rattle.no_lex.specs.declared.token.TokenKind.TheVariants as kind
@@ -11,7 +11,7 @@ use Rattle.no_grammar.specs.declared.types.TypeHead.{TypeHead}
 use Rattle.no_grammar.specs.declared.types.TypeHead.TheVariants as head
 use Rattle.no_grammar.specs.Lists.{items}
 use Rattle.no_grammar.specs.Numbers.{count_of}
-use Rattle.no_grammar.specs.Rules.{Rule, plain, done, ◌>>=◌}
+use Rattle.no_grammar.specs.Rules.{Rule, plain}
 use Rattle.no_grammar.specs.Scope.{Meaning}
 use Rattle.no_grammar.specs.Spelled.{spelled, is_kind, a_word, a_sign}
 use Rattle.no_grammar.specs.Types.{word_type, sign_type, named_type, number_in, head_by, type_head, leaf_of, count_token, array_parts, struct_parts, packed_parts, after_type_head, a_type}
@@ -19,8 +19,8 @@ use Rattle.no_scope.specs.declared.standing.Bracket.{Bracket}
 use Rattle.no_scope.specs.declared.standing.Bracket.TheVariants as bracket
 use Rattle.no_scope.specs.Scan.{sign_bracket}
 use Rattle.no_named.proofs.Marks.{IsSo, from_flaw, spells, where_true, word_so, sign_so, token_so, kind_token, integer_so, local_so}
-use Rattle.no_named.proofs.RuleMoves.{Runs, AllAt, plain_at, done_runs, then_at, then_runs, checked_runs, anywhere, items_run, word_runs, sign_runs, closes_square, opens_brace, brace_closing}
-use Rattle.no_named.proofs.Spots.{Spot, Here, Round, flat, deep, IsToken, Moves, moves_then, other_moves, square_opens, brace_opens}
+use Rattle.no_named.proofs.RuleMoves.{Runs, AllAt, plain_at, done_runs, then_at, then_runs, anywhere, items_run, word_runs, sign_runs, closes_square, opens_brace, brace_closing}
+use Rattle.no_named.proofs.Spots.{Spot, flat, deep, IsToken, Moves, moves_then, other_moves, square_opens, brace_opens}
 
 -- a token as the first of a row of words or signs
 pub or_sign : {X : Type 0} (g : X → Bracket) (x w : List ℕ) (a h : X) (o : Result X Flaw) → sign_bracket w ≡ g a → (o ≡ Ok h → sign_bracket x ≡ g h) → (if bytes_eq x w then Ok a else o) ≡ Ok h → sign_bracket x ≡ g h
