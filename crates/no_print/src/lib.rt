@@ -17,4 +17,6 @@ mod words;
 pub use printing::print;
 
 #[cfg(test)]
+mod spellings;
+#[cfg(test)]
 mod tests;
