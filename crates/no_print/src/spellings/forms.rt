@@ -3,8 +3,8 @@
 pub(super) static FORMS: [(&str, &str); 23] = [
     // Arithmetic: each operator, and words without an effect.
     (
-        "define void @f() { %x = add nsw nuw i32 %y, -1 add i8 %0, %0 sub nuw i1 true, %x mul nsw i16 32768,
--32768 shl nuw nsw nuw i64 -1, 18446744073709551615 ret void }",
+        "define void @f() { %x = add nsw nuw i32 %y, -1 add i8 %0, %0 sub nuw i1 true, %x
+mul nsw i16 32768, -32768 shl nuw nsw nuw i64 -1, 18446744073709551615 ret void }",
         r#"target datalayout = ""
 
 define void @f() {
@@ -19,8 +19,8 @@ define void @f() {
 "#,
     ),
     (
-        "define void @f() { %x = udiv exact i64 1, 2 urem i32 4294967295, undef sdiv exact i8 255, poison srem
-i16 %x, zeroinitializer lshr exact i1 1, false ashr exact i32 7, 007 ret void }",
+        "define void @f() { %x = udiv exact i64 1, 2 urem i32 4294967295, undef sdiv exact i8 255, poison
+srem i16 %x, zeroinitializer lshr exact i1 1, false ashr exact i32 7, 007 ret void }",
         r#"target datalayout = ""
 
 define void @f() {
@@ -36,8 +36,8 @@ define void @f() {
 "#,
     ),
     (
-        r#"define void @f() { %x = or disjoint i1 true, %x or i8 1, 2 and i16 %a, %b xor i64 9223372036854775808,
-%"c d" ret void }"#,
+        r#"define void @f() { %x = or disjoint i1 true, %x or i8 1, 2 and i16 %a, %b
+xor i64 9223372036854775808, %"c d" ret void }"#,
         r#"target datalayout = ""
 
 define void @f() {
@@ -51,8 +51,9 @@ define void @f() {
 "#,
     ),
     (
-        r#"define void @f() { %x = add i32 ptrtoint (ptr @f to i32), -1 %y = sub i64 %z, ptrtoint (ptr
-getelementptr inbounds (i8, ptr @g, i64 4294967296) to i64) %w = mul i8 @f, c"a" ret void }"#,
+        r#"define void @f() { %x = add i32 ptrtoint (ptr @f to i32), -1
+%y = sub i64 %z, ptrtoint (ptr getelementptr inbounds (i8, ptr @g, i64 4294967296) to i64)
+%w = mul i8 @f, c"a" ret void }"#,
         r#"target datalayout = ""
 
 define void @f() {
@@ -66,8 +67,8 @@ define void @f() {
     ),
     // Comparisons.
     (
-        "define void @f() { icmp eq i1 %a, 1 icmp ne i8 %a, 255 icmp ugt i16 %a, -1 icmp uge i32 %a, 0 icmp ult
-i64 %a, %b ret void }",
+        "define void @f() { icmp eq i1 %a, 1 icmp ne i8 %a, 255 icmp ugt i16 %a, -1 icmp uge i32 %a, 0
+icmp ult i64 %a, %b ret void }",
         r#"target datalayout = ""
 
 define void @f() {
@@ -82,8 +83,9 @@ define void @f() {
 "#,
     ),
     (
-        "define void @f() { %x = icmp samesign ule ptr %a, null %y = icmp sgt ptr @f, undef icmp samesign
-samesign sge [1 x i8] %a, zeroinitializer icmp slt { i8 } { i8 1 }, poison icmp sle i32 1, 2 ret void }",
+        "define void @f() { %x = icmp samesign ule ptr %a, null %y = icmp sgt ptr @f, undef
+icmp samesign samesign sge [1 x i8] %a, zeroinitializer icmp slt { i8 } { i8 1 }, poison
+icmp sle i32 1, 2 ret void }",
         r#"target datalayout = ""
 
 define void @f() {
@@ -118,8 +120,8 @@ define void @f() {
     ),
     (
         "%T = type { i8 }
-define void @f() { zext %T zeroinitializer to [2 x i8] bitcast i64 -1 to <{ %T }> inttoptr ptr inttoptr
-(i32 -1 to ptr) to %T ret void }",
+define void @f() { zext %T zeroinitializer to [2 x i8] bitcast i64 -1 to <{ %T }>
+inttoptr ptr inttoptr (i32 -1 to ptr) to %T ret void }",
         r#"target datalayout = ""
 %T = type { i8 }
 
@@ -133,8 +135,9 @@ define void @f() {
 "#,
     ),
     (
-        r#"define void @f() { %x = freeze i32 %a, !dbg !7 freeze ptr undef %y = freeze [2 x i8] c"\0a " %s = select
-i1 %c, i8 1, i8 2 select i1 true, ptr null, ptr @f select i1 0, { i8 } %a, { i8 } <{ i8 200 }> ret void }"#,
+        r#"define void @f() { %x = freeze i32 %a, !dbg !7 freeze ptr undef %y = freeze [2 x i8] c"\0a "
+%s = select i1 %c, i8 1, i8 2 select i1 true, ptr null, ptr @f
+select i1 0, { i8 } %a, { i8 } <{ i8 200 }> ret void }"#,
         r#"target datalayout = ""
 
 define void @f() {
@@ -151,8 +154,8 @@ define void @f() {
     ),
     // Phis.
     (
-        r#"define void @f() { a: %x = phi i32 [ 1, %a ], [ %y, %"b" ], !p !1 phi ptr [ null, %0 ] %y = phi i1 [
-true, %a ],[%x,%"c d"],[-1,%...] phi [2 x i8] [ c"ab", %a ], [ [i8 1, i8 2], %a ] ret void }"#,
+        r#"define void @f() { a: %x = phi i32 [ 1, %a ], [ %y, %"b" ], !p !1 phi ptr [ null, %0 ]
+%y = phi i1 [ true, %a ],[%x,%"c d"],[-1,%...] phi [2 x i8] [ c"ab", %a ], [ [i8 1, i8 2], %a ] ret void }"#,
         r#"target datalayout = ""
 
 define void @f() {
@@ -167,8 +170,8 @@ a:
     ),
     // Memory.
     (
-        "define void @f() { %x = alloca i32 alloca [2 x i8], i64 4, align 8 alloca ptr, align 4, !a !b %y =
-alloca i32, i64 %n, align 8, !a !b alloca i8, i8 255 alloca {}, i1 true, align 65536 ret void }",
+        "define void @f() { %x = alloca i32 alloca [2 x i8], i64 4, align 8 alloca ptr, align 4, !a !b
+%y = alloca i32, i64 %n, align 8, !a !b alloca i8, i8 255 alloca {}, i1 true, align 65536 ret void }",
         r#"target datalayout = ""
 
 define void @f() {
@@ -184,8 +187,9 @@ define void @f() {
 "#,
     ),
     (
-        "define void @f() { load i32, ptr @a, align 4, !tbaa !5 %x = load volatile ptr, ptr %p %y = load volatile
-i8, ptr %x, align 65536, !a !b load [2 x i8], ptr null load i1, ptr inttoptr (i32 16 to ptr) ret void }",
+        "define void @f() { load i32, ptr @a, align 4, !tbaa !5 %x = load volatile ptr, ptr %p
+%y = load volatile i8, ptr %x, align 65536, !a !b load [2 x i8], ptr null
+load i1, ptr inttoptr (i32 16 to ptr) ret void }",
         r#"target datalayout = ""
 
 define void @f() {
@@ -201,8 +205,8 @@ define void @f() {
     ),
     (
         r#"define void @f() { store i32 1, ptr @a store volatile ptr %p, ptr getelementptr inbounds (i8, ptr @a,
-i64 1), align 4, !a !b store i8 255, ptr %p, align 1 store i1 undef, ptr undef store { i8 } { i8 1 },
-ptr @"b c", !x !y, !z !"w" ret void }"#,
+i64 1), align 4, !a !b store i8 255, ptr %p, align 1 store i1 undef, ptr undef
+store { i8 } { i8 1 }, ptr @"b c", !x !y, !z !"w" ret void }"#,
         r#"target datalayout = ""
 
 define void @f() {
@@ -218,9 +222,9 @@ define void @f() {
     ),
     (
         "%T = type { i8, [4 x i16] }
-define void @f() { %x = getelementptr inbounds i8, ptr %p, i32 %i, i64 2, !a !b getelementptr inbounds
-nuw nusw inbounds { i8 }, ptr @a, i1 true getelementptr %T, ptr getelementptr (i8, ptr @a, i32 1), i32
-0, i32 1, i16 65535, i8 %x ret void }",
+define void @f() { %x = getelementptr inbounds i8, ptr %p, i32 %i, i64 2, !a !b
+getelementptr inbounds nuw nusw inbounds { i8 }, ptr @a, i1 true
+getelementptr %T, ptr getelementptr (i8, ptr @a, i32 1), i32 0, i32 1, i16 65535, i8 %x ret void }",
         r#"target datalayout = ""
 %T = type { i8, [4 x i16] }
 
@@ -297,8 +301,8 @@ define void @f() {
     ),
     // Ends of blocks.
     (
-        r#"define void @f() { br label %a a: br i1 %c, label %a, label %"b", !a !b b: br i1 true, label %a, label
-%... "...": br i1 0, label %"c d", label %0 }"#,
+        r#"define void @f() { br label %a a: br i1 %c, label %a, label %"b", !a !b b:
+br i1 true, label %a, label %... "...": br i1 0, label %"c d", label %0 }"#,
         r#"target datalayout = ""
 
 define void @f() {
@@ -314,9 +318,9 @@ b:
 "#,
     ),
     (
-        r#"define void @f() { switch i8 %v, label %d [ i8 1, label %a i8 -1, label %d ] d: switch i8 %x, label %a [
-i8 255, label %b i8 -128, label %b i8 128, label %b i8 127, label %"e f" ] a: switch i8 %v, label %d [ ]
-b: switch i64 5, label %d [] }"#,
+        r#"define void @f() { switch i8 %v, label %d [ i8 1, label %a i8 -1, label %d ] d:
+switch i8 %x, label %a [ i8 255, label %b i8 -128, label %b i8 128, label %b i8 127, label %"e f" ] a:
+switch i8 %v, label %d [ ] b: switch i64 5, label %d [] }"#,
         r#"target datalayout = ""
 
 define void @f() {
@@ -332,10 +336,11 @@ b:
 "#,
     ),
     (
-        "define void @f() { switch i1 true, label %a [ ] a: switch i1 %x, label %a [ i1 false, label %b i1 1,
-label %0 i1 -1, label %... ], !a !b b: switch i64 ptrtoint (ptr @f to i64), label %a [i64
-18446744073709551615,label %a i64 9223372036854775808, label %b] switch i32 undef, label %a [ i32
-2147483648, label %a ] switch i16 7, label %a [ i16 -32768, label %a ] }",
+        "define void @f() { switch i1 true, label %a [ ] a:
+switch i1 %x, label %a [ i1 false, label %b i1 1, label %0 i1 -1, label %... ], !a !b b:
+switch i64 ptrtoint (ptr @f to i64), label %a [i64 18446744073709551615,label %a i64
+9223372036854775808, label %b] switch i32 undef, label %a [ i32 2147483648, label %a ]
+switch i16 7, label %a [ i16 -32768, label %a ] }",
         r#"target datalayout = ""
 
 define void @f() {
@@ -352,8 +357,8 @@ b:
     ),
     (
         "%T = type { i8 }
-define i32 @f() { ret void, !a !b, !c !d ret i32 5 ret { i8 } %x ret i8 3, !a !b ret ptr @f ret %T { i8
-255 } ret [0 x i8] [] ret i1 1 ret <{}> undef unreachable, !a !b }",
+define i32 @f() { ret void, !a !b, !c !d ret i32 5 ret { i8 } %x ret i8 3, !a !b ret ptr @f
+ret %T { i8 255 } ret [0 x i8] [] ret i1 1 ret <{}> undef unreachable, !a !b }",
         r#"target datalayout = ""
 %T = type { i8 }
 

@@ -173,8 +173,8 @@ declare void @j()
 "#,
     ),
     (
-        r#"define "machine-bound" void @f(ptr "machine-bound" %a) { call "machine-bound" void @f(ptr
-"machine-bound" %a) "machine-bound" ret void }
+        r#"define "machine-bound" void @f(ptr "machine-bound" %a) {
+call "machine-bound" void @f(ptr "machine-bound" %a) "machine-bound" ret void }
 declare "machine-bound" void @g() "a"="machine-bound""#,
         r#"target datalayout = ""
 
@@ -385,8 +385,8 @@ define void @h() {
 "#,
     ),
     (
-        r#"define void @f() { c: br label %c i32: br label %i32 define: br label %"define" "a\22\5c:": br label
-%"a\22\\:" -: ret void }"#,
+        r#"define void @f() { c: br label %c i32: br label %i32 define: br label %"define" "a\22\5c:":
+br label %"a\22\\:" -: ret void }"#,
         r#"target datalayout = ""
 
 define void @f() {
@@ -439,8 +439,8 @@ define void @i() {
     ),
     // The counter that gives names.
     (
-        r#"define void @f() { %5 = add i8 1, 2 add i8 3, 4 %3 = add i8 5, 6 add i8 7, 8 %05 = add i8 9, 10 add i8
-11, 12 %"9" = add i8 13, 14 add i8 15, 16 %-7 = add i8 17, 18 add i8 19, 20 ret void }"#,
+        r#"define void @f() { %5 = add i8 1, 2 add i8 3, 4 %3 = add i8 5, 6 add i8 7, 8 %05 = add i8 9, 10
+add i8 11, 12 %"9" = add i8 13, 14 add i8 15, 16 %-7 = add i8 17, 18 add i8 19, 20 ret void }"#,
         r#"target datalayout = ""
 
 define void @f() {
@@ -460,8 +460,8 @@ define void @f() {
 "#,
     ),
     (
-        "define void @f() { store i8 1, ptr null call void @g() add i8 %0, %9 call i8 @h() br i1 true, label %8,
-label %3 3: ret void }
+        "define void @f() { store i8 1, ptr null call void @g() add i8 %0, %9 call i8 @h()
+br i1 true, label %8, label %3 3: ret void }
 define void @g() { add i8 1, 2 ret void }",
         r#"target datalayout = ""
 
@@ -484,8 +484,8 @@ define void @g() {
 "#,
     ),
     (
-        "define void @f() { a: %99999999999 = add i8 1, 2 add i8 3, 4 %18446744073709551615 = add i8 5, 6 add i8
-7, 8 %99999999999999999999 = add i8 9, 10 add i8 11, 12 ret void }",
+        "define void @f() { a: %99999999999 = add i8 1, 2 add i8 3, 4 %18446744073709551615 = add i8 5, 6
+add i8 7, 8 %99999999999999999999 = add i8 9, 10 add i8 11, 12 ret void }",
         r#"target datalayout = ""
 
 define void @f() {

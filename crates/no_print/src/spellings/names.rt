@@ -199,8 +199,8 @@ define %U @f(%T %0) {
     ),
     (
         r#"declare void @"f g"()
-define void @"\0A"(i8 %"a b", i8 %"\63", i8 %"") { "l m": %"n\22" = add i8 %"a b", %c %"o" = add i8
-%"n\22", %"" br label %"l m" }"#,
+define void @"\0A"(i8 %"a b", i8 %"\63", i8 %"") { "l m": %"n\22" = add i8 %"a b", %c
+%"o" = add i8 %"n\22", %"" br label %"l m" }"#,
         r#"target datalayout = ""
 
 declare void @"f g"()

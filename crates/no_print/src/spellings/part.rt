@@ -33,8 +33,8 @@ declare ptr @no.alloca(i64, i64, i64)
     // An inserted instruction has its mark, and the text the node.
     (
         r#"target datalayout = "e-p:64:64-i64:64"
-define void @f0() { b0: %n0 = call i32 @llvm.bswap.i32(i32 16909060), !no.x !0 store i32 %n0, ptr
-inttoptr (i64 65536 to ptr) ret void }
+define void @f0() { b0: %n0 = call i32 @llvm.bswap.i32(i32 16909060), !no.x !0
+store i32 %n0, ptr inttoptr (i64 65536 to ptr) ret void }
 declare i32 @llvm.bswap.i32(i32)"#,
         r#"target datalayout = "e-p:64:64-i64:64"
 
@@ -50,9 +50,9 @@ declare i32 @llvm.bswap.i32(i32)
 "#,
     ),
     (
-        "define ptr @f0(ptr %s0) { b0: %n0 = load i32, ptr inttoptr (i32 65536 to ptr), align 4 %s1 = call i32
-@llvm.bswap.i32(i32 %n0), !no.x !0 %u0 = ptrtoint ptr %s0 to i32, !no.x !0 %u1 = add i32 %u0, -1, !no.x
-!0 %s2 = inttoptr i32 %u1 to ptr ret ptr %s2 }
+        "define ptr @f0(ptr %s0) { b0: %n0 = load i32, ptr inttoptr (i32 65536 to ptr), align 4
+%s1 = call i32 @llvm.bswap.i32(i32 %n0), !no.x !0 %u0 = ptrtoint ptr %s0 to i32, !no.x !0
+%u1 = add i32 %u0, -1, !no.x !0 %s2 = inttoptr i32 %u1 to ptr ret ptr %s2 }
 !0 = !{}",
         r#"target datalayout = ""
 
@@ -102,14 +102,15 @@ a:
     // Each form with the mark.
     (
         "@g = global i8 0
-define void @f(i32 %a, ptr %p) { x: %b = sub nsw i32 %a, 1, !no.x !0 %c = icmp samesign slt i32 %a, %b,
-!no.x !0 zext nneg i8 1 to i32, !no.x !0 freeze i32 undef, !no.x !0 select i1 %c, i8 1, i8 255, !no.x !0
-phi i32 [ 1, %x ], [ %a, %y ], !no.x !0 alloca i8, !no.x !0 alloca i8, i32 4, align 2, !no.x !0, !a !b
-load volatile i8, ptr @g, align 1, !no.x !0 store volatile i8 1, ptr %p, align 1, !a !b, !no.x !0
+define void @f(i32 %a, ptr %p) { x: %b = sub nsw i32 %a, 1, !no.x !0
+%c = icmp samesign slt i32 %a, %b, !no.x !0 zext nneg i8 1 to i32, !no.x !0 freeze i32 undef, !no.x !0
+select i1 %c, i8 1, i8 255, !no.x !0 phi i32 [ 1, %x ], [ %a, %y ], !no.x !0 alloca i8, !no.x !0
+alloca i8, i32 4, align 2, !no.x !0, !a !b load volatile i8, ptr @g, align 1, !no.x !0
+store volatile i8 1, ptr %p, align 1, !a !b, !no.x !0
 getelementptr inbounds i8, ptr %p, i32 1, !no.x !0, !no.x !0 tail call i32 @h(i32 1) nounwind, !no.x !0
-call void %p(), !no.x !0 br label %x, !no.x !0 y: br i1 %c, label %x, label %y, !no.x !0 switch i32 %a,
-label %x [ ], !no.x !0 switch i32 %a, label %x [ i32 1, label %y ], !no.x !0 ret void, !no.x !0 ret i32
-%a, !no.x !0 unreachable, !no.x !0 }",
+call void %p(), !no.x !0 br label %x, !no.x !0 y: br i1 %c, label %x, label %y, !no.x !0
+switch i32 %a, label %x [ ], !no.x !0 switch i32 %a, label %x [ i32 1, label %y ], !no.x !0
+ret void, !no.x !0 ret i32 %a, !no.x !0 unreachable, !no.x !0 }",
         r#"target datalayout = ""
 @g = global i8 0
 
@@ -143,12 +144,12 @@ y:
     // Each form without the mark, as in a source.
     (
         "@g = global i8 0
-define void @f(i32 %a, ptr %p) { x: %b = sub nsw i32 %a, 1 %c = icmp samesign slt i32 %a, %b zext nneg
-i8 1 to i32 freeze i32 undef select i1 %c, i8 1, i8 255 phi i32 [ 1, %x ], [ %a, %y ] alloca i8 alloca
-i8, i32 4, align 2, !a !b load volatile i8, ptr @g, align 1 store volatile i8 1, ptr %p, align 1, !a !b
-getelementptr inbounds i8, ptr %p, i32 1 tail call i32 @h(i32 1) nounwind call void %p() br label %x y:
-br i1 %c, label %x, label %y switch i32 %a, label %x [ ] switch i32 %a, label %x [ i32 1, label %y ] ret
-void ret i32 %a unreachable }",
+define void @f(i32 %a, ptr %p) { x: %b = sub nsw i32 %a, 1 %c = icmp samesign slt i32 %a, %b
+zext nneg i8 1 to i32 freeze i32 undef select i1 %c, i8 1, i8 255 phi i32 [ 1, %x ], [ %a, %y ]
+alloca i8 alloca i8, i32 4, align 2, !a !b load volatile i8, ptr @g, align 1
+store volatile i8 1, ptr %p, align 1, !a !b getelementptr inbounds i8, ptr %p, i32 1
+tail call i32 @h(i32 1) nounwind call void %p() br label %x y: br i1 %c, label %x, label %y
+switch i32 %a, label %x [ ] switch i32 %a, label %x [ i32 1, label %y ] ret void ret i32 %a unreachable }",
         r#"target datalayout = ""
 @g = global i8 0
 
@@ -267,8 +268,8 @@ declare void @i() "machine-bound"
 "#,
     ),
     (
-        r#"define "no.addr"="7" void @f(ptr "no.addr"="8" %a) { call "no.addr"="9" void @f(ptr "no.addr"="1" %a)
-"no.addr"="2" ret void }"#,
+        r#"define "no.addr"="7" void @f(ptr "no.addr"="8" %a) {
+call "no.addr"="9" void @f(ptr "no.addr"="1" %a) "no.addr"="2" ret void }"#,
         r#"target datalayout = ""
 
 define void @f(ptr %a) {
