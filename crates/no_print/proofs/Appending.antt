@@ -42,3 +42,7 @@ three o p q r a b c whole w x y e = both o p r a (b ++ c) whole w (both p q r b 
 
 pub four : (o p q r s : List ℕ) (a b c d whole : List Piece) → Wrote o p a → Wrote p q b → Wrote q r c → Wrote r s d → whole ≡ a ++ (b ++ (c ++ d)) → Wrote o s whole
 four o p q r s a b c d whole w x y z e = both o p s a (b ++ (c ++ d)) whole w (three p q r s b c d (b ++ (c ++ d)) x y z refl) e
+
+-- nothing of the whole is there yet, where the whole is said in another way
+pub left_from : (old : List ℕ) (whole rest : List Piece) → whole ≡ rest → Left old old whole rest
+left_from old whole rest e = record { is = ap (λ (l : List Piece). old ++ written l) e }

@@ -1,2 +1,4 @@
 pub mod Appending
+pub mod Braces
+pub mod Fields
 pub mod Lists

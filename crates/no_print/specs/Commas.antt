@@ -1,5 +1,5 @@
 -- Lists with commas, item by item.
-use Rattle.std.specs.Prelude.{ℕ, List, []}
+use Rattle.std.specs.Prelude.{ℕ, zero, suc, List, []}
 use Rattle.no_print.specs.Pieces.{Piece, comma, behind_commas, spaced, with_commas}
 
 -- what stands in front of the item of this number

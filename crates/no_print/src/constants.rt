@@ -129,7 +129,7 @@ fn put_array(
     ensures { OnOk result (Wrote out.old.items out.new.items (array_const (spelled_by scope.now) gap.now (element_in (out-Ty t.now)) (map (const_pieces (spelled_by scope.now)) elements.now))) }
 {
     let void = Ty::Void;
-    let element = element_of(t, &void);
+    let element = element_of(&*t, &void);
     put_sign(out, gap, b"[")?;
     put_elements(out, scope, element, elements)?;
     put_sign(out, GLUED, b"]")?;
@@ -169,7 +169,7 @@ fn put_field(
 {
     let void = Ty::Void;
     put_break(out, k)?;
-    put_member(out, scope, first_type(types, &void), c, SPACED)?;
+    put_member(out, scope, first_type(&*types, &void), c, SPACED)?;
     Ok(())
 }
 
@@ -202,7 +202,7 @@ fn put_struct(
 ) -> Result<(), NoMemory>
     ensures { OnOk result (Wrote out.old.items out.new.items (struct_const (spelled_by scope.now) gap.now (fields_in (out-Ty t.now)) (map (const_pieces (spelled_by scope.now)) fields.now))) }
 {
-    if fields.is_empty() {
+    if fields.len() == 0 {
         return put_no_braces(out, gap);
     }
     put_sign(out, gap, b"{")?;
@@ -223,13 +223,13 @@ pub(crate) fn put_const(
     ensures { OnOk result (Wrote out.old.items out.new.items (const_pieces (spelled_by scope.now) c.now t.now gap.now)) }
 {
     match c {
-        Const::Zero => put_zero(out, gap, resolved(scope, t)),
-        Const::Int(n) => put_number(out, width_of(resolved(scope, t)), gap, *n),
+        Const::Zero => put_zero(out, gap, resolved(&*scope, &*t)),
+        Const::Int(n) => put_number(out, width_of(resolved(&*scope, &*t)), gap, *n),
         Const::Str(bytes) => put_text(out, gap, bytes.as_slice()),
         Const::Array(elements) => {
-            put_array(out, scope, resolved(scope, t), elements.as_slice(), gap)
+            put_array(out, scope, resolved(&*scope, &*t), elements.as_slice(), gap)
         }
-        Const::Struct(fields) => put_struct(out, scope, resolved(scope, t), fields.as_slice(), gap),
+        Const::Struct(fields) => put_struct(out, scope, resolved(&*scope, &*t), fields.as_slice(), gap),
         Const::Address(place) => put_place(out, scope, place, gap),
         Const::AddressAsInt(place) => put_address_as_int(out, scope, t, place, gap),
         Const::IntAsPtr(n) => put_int_as_address(out, gap, *n),

@@ -11,8 +11,8 @@ ghost use Rattle.no_print.specs.Pieces.{glued, lined, sign, spaced, with_commas}
 ghost use Rattle.no_print.specs.Scopes.{spelled_by};
 ghost use Rattle.no_print.specs.Wrote.{Wrote};
 
-use crate::names::{name_at, put_global, put_label_line, put_local, put_string};
-use crate::operands::put_inserted;
+use crate::names::{name_at, put_global, put_label_line, put_string};
+use crate::operands::{put_inserted, put_register};
 use crate::operations::put_op;
 use crate::output::{GLUED, INDENTED, LINED, PARTED, SPACED, gap_at, put_break, put_sign, put_word};
 use crate::scope::Scope;
@@ -33,7 +33,7 @@ fn put_with_result(
     match register {
         None => put_op(out, scope, f, INDENTED, o),
         Some(number) => {
-            put_local(out, INDENTED, name_at(f.registers.as_slice(), number))?;
+            put_register(out, INDENTED, f, number)?;
             put_sign(out, SPACED, b"=")?;
             put_op(out, scope, f, SPACED, o)?;
             Ok(())
@@ -70,6 +70,13 @@ fn put_instrs(
     Ok(())
 }
 
+/// Appends the line of a label.
+fn put_label_of(out: &mut Vec<u8>, f: &Function, l: u32) -> Result<(), NoMemory>
+    ensures { OnOk result (Wrote out.old.items out.new.items (label_line lined (name_at_of f.now.labels l))) }
+{
+    put_label_line(out, LINED, name_at(f.labels.as_slice(), l))
+}
+
 /// Appends a block.
 fn put_block(
     out: &mut Vec<u8>,
@@ -79,7 +86,7 @@ fn put_block(
 ) -> Result<(), NoMemory>
     ensures { OnOk result (Wrote out.old.items out.new.items (label_line lined (name_at_of f.now.labels b.now.label) ++ instrs_pieces (spelled_by scope.now) (locals_of f.now) b.now.instrs)) }
 {
-    put_label_line(out, LINED, name_at(f.labels.as_slice(), b.label))?;
+    put_label_of(out, f, b.label)?;
     put_instrs(out, scope, f, b.instrs.as_slice())?;
     Ok(())
 }
@@ -190,6 +197,21 @@ fn put_declared(out: &mut Vec<u8>, scope: &Scope, f: &Function) -> Result<(), No
     Ok(())
 }
 
+/// Appends a parameter behind blanks.
+fn put_one_param(
+    out: &mut Vec<u8>,
+    scope: &Scope,
+    f: &Function,
+    gap: &[u8],
+    param: &(u32, Ty),
+) -> Result<(), NoMemory>
+    ensures { OnOk result (Wrote out.old.items out.new.items (param_pieces (spelled_by scope.now) f.now.registers gap.now param.now)) }
+{
+    put_type(out, scope, &param.1, gap)?;
+    put_register(out, SPACED, f, param.0)?;
+    Ok(())
+}
+
 /// Appends the parameter of this number.
 fn put_param(
     out: &mut Vec<u8>,
@@ -201,8 +223,7 @@ fn put_param(
     ensures { OnOk result (Wrote out.old.items out.new.items (break_pieces k ++ param_pieces (spelled_by scope.now) f.now.registers (gap_at_of glued k) param.now)) }
 {
     put_break(out, k)?;
-    put_type(out, scope, &param.1, gap_at(GLUED, k))?;
-    put_local(out, SPACED, name_at(f.registers.as_slice(), param.0))?;
+    put_one_param(out, scope, f, gap_at(GLUED, k), param)?;
     Ok(())
 }
 

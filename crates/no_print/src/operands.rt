@@ -58,6 +58,18 @@ pub(crate) fn put_inserted(out: &mut Vec<u8>, inserted: bool) -> Result<(), NoMe
     Ok(())
 }
 
+/// Appends the name of a register behind blanks.
+pub(crate) fn put_register(
+    out: &mut Vec<u8>,
+    gap: &[u8],
+    f: &Function,
+    register: u32,
+) -> Result<(), NoMemory>
+    ensures { OnOk result (Wrote out.old.items out.new.items (local_name gap.now (name_at_of f.now.registers register))) }
+{
+    put_local(out, gap, name_at(f.registers.as_slice(), register))
+}
+
 /// Appends an operand at its type.
 pub(crate) fn put_operand(
     out: &mut Vec<u8>,
@@ -69,11 +81,7 @@ pub(crate) fn put_operand(
     ensures { OnOk result (Wrote out.old.items out.new.items (operand_pieces (spelled_by scope.now) (locals_of f.now) t.now o.now)) }
 {
     match o {
-        Operand::Reg(register) => put_local(
-            out,
-            SPACED,
-            name_at(f.registers.as_slice(), *register),
-        ),
+        Operand::Reg(register) => put_register(out, SPACED, f, *register),
         Operand::Const(constant) => put_const(out, scope, constant, t, SPACED),
     }
 }

@@ -1,6 +1,4 @@
-#![tactic(auto, using(crate::proofs::Appending::written_append))]
-
-ghost use Rattle.std.specs.Prelude.{OnOk};
+ghost use Rattle.std.specs.Prelude.{OnOk, Some, None};
 ghost use Rattle.no_ir.specs.declared.instruction.Op.{Op};
 ghost use Rattle.no_print.specs.Instructions.{op_pieces};
 ghost use Rattle.no_print.specs.Modules.{locals_of};
@@ -14,7 +12,7 @@ use crate::operands::{
 use crate::output::{GLUED, SPACED, put_comma, put_sign, put_word};
 use crate::scope::Scope;
 use crate::types::put_type;
-use crate::words::{binary_word, cast_word, pred_word};
+use crate::words::{put_binary_word, put_cast_word, put_pred_word};
 use no_ir::{BinOp, CastOp, Function, NoMemory, Op, Operand, Pred, Ty};
 use sqlite_items::Items as List;
 
@@ -31,7 +29,7 @@ fn put_binary(
 ) -> Result<(), NoMemory>
     ensures { OnOk result (Wrote out.old.items out.new.items (op_pieces (spelled_by scope.now) (locals_of f.now) gap.now (Op.Binary by w a.now b.now))) }
 {
-    put_word(out, gap, binary_word(by))?;
+    put_binary_word(out, gap, by)?;
     put_sized(out, scope, f, w, a)?;
     put_comma(out)?;
     put_narrow(out, scope, f, w, b)?;
@@ -52,7 +50,7 @@ fn put_compare(
     ensures { OnOk result (Wrote out.old.items out.new.items (op_pieces (spelled_by scope.now) (locals_of f.now) gap.now (Op.Compare pred t.now a.now b.now))) }
 {
     put_word(out, gap, b"icmp")?;
-    put_word(out, SPACED, pred_word(pred))?;
+    put_pred_word(out, pred)?;
     put_typed(out, scope, f, SPACED, t, a)?;
     put_comma(out)?;
     put_operand(out, scope, f, t, b)?;
@@ -72,7 +70,7 @@ fn put_cast(
 ) -> Result<(), NoMemory>
     ensures { OnOk result (Wrote out.old.items out.new.items (op_pieces (spelled_by scope.now) (locals_of f.now) gap.now (Op.Cast cast t.now a.now to.now))) }
 {
-    put_word(out, gap, cast_word(cast))?;
+    put_cast_word(out, gap, cast)?;
     put_typed(out, scope, f, SPACED, t, a)?;
     put_word(out, SPACED, b"to")?;
     put_type(out, scope, to, SPACED)?;
@@ -294,21 +292,32 @@ fn put_switch(
     Ok(())
 }
 
-/// Appends a `ret` behind blanks.
-fn put_ret(
+/// Appends a `ret` without a value behind blanks.
+fn put_ret_void(
     out: &mut Vec<u8>,
     scope: &Scope,
     f: &Function,
     gap: &[u8],
-    value: &Option<(Ty, Operand)>,
 ) -> Result<(), NoMemory>
-    ensures { OnOk result (Wrote out.old.items out.new.items (op_pieces (spelled_by scope.now) (locals_of f.now) gap.now (Op.Ret value.now))) }
+    ensures { OnOk result (Wrote out.old.items out.new.items (op_pieces (spelled_by scope.now) (locals_of f.now) gap.now (Op.Ret None))) }
 {
     put_word(out, gap, b"ret")?;
-    match value {
-        None => put_word(out, SPACED, b"void")?,
-        Some(given) => put_typed(out, scope, f, SPACED, &given.0, &given.1)?,
-    }
+    put_word(out, SPACED, b"void")?;
+    Ok(())
+}
+
+/// Appends a `ret` with a value behind blanks.
+fn put_ret_value(
+    out: &mut Vec<u8>,
+    scope: &Scope,
+    f: &Function,
+    gap: &[u8],
+    value: &(Ty, Operand),
+) -> Result<(), NoMemory>
+    ensures { OnOk result (Wrote out.old.items out.new.items (op_pieces (spelled_by scope.now) (locals_of f.now) gap.now (Op.Ret (Some value.now)))) }
+{
+    put_word(out, gap, b"ret")?;
+    put_typed(out, scope, f, SPACED, &value.0, &value.1)?;
     Ok(())
 }
 
@@ -337,7 +346,8 @@ pub(crate) fn put_op(
         Op::Br(l) => put_br(out, scope, f, gap, *l),
         Op::CondBr(c, l, other) => put_cond_br(out, scope, f, gap, c, *l, *other),
         Op::Switch(w, a, l, cases) => put_switch(out, scope, f, gap, *w, a, *l, cases),
-        Op::Ret(value) => put_ret(out, scope, f, gap, value),
+        Op::Ret(None) => put_ret_void(out, scope, f, gap),
+        Op::Ret(Some(value)) => put_ret_value(out, scope, f, gap, value),
         Op::Unreachable => put_word(out, gap, b"unreachable"),
     }
 }

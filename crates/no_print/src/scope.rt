@@ -38,7 +38,7 @@ fn definition<'a>(scope: &Scope<'a>, number: u32) -> Option<&'a Ty>
 }
 
 /// What a named type names, and another type itself.
-pub(crate) fn resolved<'a>(scope: &Scope<'a>, t: &'a Ty) -> &'a Ty
+pub(crate) fn resolved<'b>(scope: &'b Scope, t: &'b Ty) -> &'b Ty
     ensures { result.now ≡ resolved (spelled_by scope.now) t.now }
 {
     match t {

@@ -72,7 +72,7 @@ fn put_fields(
 ) -> Result<(), NoMemory>
     ensures { OnOk result (Wrote out.old.items out.new.items (in_braces gap.now (fields_with (map (type_pieces (spelled_by scope.now).named) fields.now)))) }
 {
-    if fields.is_empty() {
+    if fields.len() == 0 {
         return put_no_braces(out, gap);
     }
     put_sign(out, gap, b"{")?;
