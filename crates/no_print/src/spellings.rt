@@ -47,11 +47,13 @@ fn wrong(rt: &HostRuntime, role: Role, rows: &[(&str, &str)]) -> Result<Option<u
 
 #[test]
 fn texts_have_one_spelling(rt: HostRuntime) -> Result<(), Fail> {
-    assert_eq!(rt; wrong(&rt, Role::Source, &values::VALUES)?, None);
-    assert_eq!(rt; wrong(&rt, Role::Source, &names::NAMES)?, None);
+    for role in [Role::Source, Role::Part] {
+        assert_eq!(rt; wrong(&rt, role, &values::VALUES)?, None);
+        assert_eq!(rt; wrong(&rt, role, &names::NAMES)?, None);
+        assert_eq!(rt; wrong(&rt, role, &forms::FORMS)?, None);
+        assert_eq!(rt; wrong(&rt, role, &programs::PROGRAMS)?, None);
+    }
     assert_eq!(rt; wrong(&rt, Role::Source, &functions::FUNCTIONS)?, None);
-    assert_eq!(rt; wrong(&rt, Role::Source, &forms::FORMS)?, None);
-    assert_eq!(rt; wrong(&rt, Role::Source, &programs::PROGRAMS)?, None);
     assert_eq!(rt; wrong(&rt, Role::Part, &part::PARTS)?, None);
     Ok(())
 }

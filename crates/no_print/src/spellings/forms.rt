@@ -1,6 +1,6 @@
 //! Instructions. Each row is a text, and its one spelling.
 
-pub(super) static FORMS: [(&str, &str); 23] = [
+pub(super) static FORMS: [(&str, &str); 22] = [
     // Arithmetic: each operator, and words without an effect.
     (
         "define void @f() { %x = add nsw nuw i32 %y, -1 add i8 %0, %0 sub nuw i1 true, %x
@@ -373,17 +373,6 @@ define i32 @f() {
   ret [0 x i8] []
   ret i1 true
   ret <{}> zeroinitializer
-  unreachable
-}
-"#,
-    ),
-    // A source marks nothing.
-    (
-        "define void @f() { unreachable, !no.x !0 } !0 = !{}",
-        r#"target datalayout = ""
-
-define void @f() {
-0:
   unreachable
 }
 "#,

@@ -1,6 +1,6 @@
 //! Functions, their attributes, blocks and the names that a counter gives. Each row is a text, and its one spelling.
 
-pub(super) static FUNCTIONS: [(&str, &str); 31] = [
+pub(super) static FUNCTIONS: [(&str, &str); 32] = [
     // Heads.
     (
         "define void @f() { ret void }",
@@ -528,6 +528,17 @@ a:
   %0 = add i8 %a, 1
   %b = add i8 %a, %0
   ret void
+}
+"#,
+    ),
+    // A source marks nothing.
+    (
+        "define void @f() { unreachable, !no.x !0 } !0 = !{}",
+        r#"target datalayout = ""
+
+define void @f() {
+0:
+  unreachable
 }
 "#,
     ),
