@@ -20,7 +20,6 @@ gap_spaced (suc k) = refl
 pub item_at : (f : List ℕ → List Piece) (k : ℕ) (gap g o p q : List ℕ) → g ≡ gap_at gap k → Wrote o p (break k) → Wrote p q (f g) → Wrote o q (break k ++ f (gap_at gap k))
 item_at f k gap g o p q e w x = both o p q (break k) (f g) (break k ++ f (gap_at gap k)) w x (ap (λ (h : List ℕ). break k ++ f h) (sym e))
 
-
 module _ (s : Spelled) where
   typed_next : (m : Ty → List ℕ → List Piece) (ms : List (Ty → List ℕ → List Piece)) (types : List Ty)
       → typed s (m ∷ ms) types ≡ (λ (gap : List ℕ). member s gap (get_or types 0 ty.Void) m) ∷ typed s ms (drop 1 types)

@@ -2,7 +2,7 @@
 use Rattle.std.proofs.Common.{◌≡◌, ℕ, zero, suc, ◌+◌, ◌<◌, ◌≤◌, List, [], ◌∷◌, ◌++◌, map, drop, length, get_or, refl, sym, ap, ◌∙◌, arith, append_assoc}
 use Rattle.std.proofs.lemmas.List.{append-nil, at_drop_more, drop_all}
 use Rattle.no_print.specs.Commas.{break, gap_at, items_from}
-use Rattle.no_print.specs.Pieces.{Piece, behind_commas, spaced, with_commas, written}
+use Rattle.no_print.specs.Pieces.{Piece, spaced, written}
 use Rattle.no_print.specs.Wrote.{Wrote}
 use Rattle.no_print.proofs.Appending.{written_append}
 

@@ -74,8 +74,8 @@ fn put_text(out: &mut Vec<u8>, gap: &[u8], bytes: &[u8]) -> Result<(), NoMemory>
 fn put_member(
     out: &mut Vec<u8>,
     scope: &Scope,
-    t: &Ty,
     c: &Const,
+    t: &Ty,
     gap: &[u8],
 ) -> Result<(), NoMemory>
     ensures { OnOk result (Wrote out.old.items out.new.items (member (spelled_by scope.now) gap.now t.now (const_pieces (spelled_by scope.now) c.now))) }
@@ -90,14 +90,14 @@ fn put_member(
 fn put_element(
     out: &mut Vec<u8>,
     scope: &Scope,
+    c: &Const,
     t: &Ty,
     k: usize,
-    c: &Const,
 ) -> Result<(), NoMemory>
     ensures { OnOk result (Wrote out.old.items out.new.items (break_pieces k ++ member (spelled_by scope.now) (gap_at_of glued k) t.now (const_pieces (spelled_by scope.now) c.now))) }
 {
     put_break(out, k)?;
-    put_member(out, scope, t, c, gap_at(GLUED, k))?;
+    put_member(out, scope, c, t, gap_at(GLUED, k))?;
     Ok(())
 }
 
@@ -106,13 +106,13 @@ fn put_element(
 fn put_elements(
     out: &mut Vec<u8>,
     scope: &Scope,
-    t: &Ty,
     elements: &[Const],
+    t: &Ty,
 ) -> Result<(), NoMemory>
     ensures { OnOk result (Wrote out.old.items out.new.items (with_commas (λ (gap : List ℕ) (c : Ty → List ℕ → List Piece). member (spelled_by scope.now) gap t.now c) glued (map (const_pieces (spelled_by scope.now)) elements.now))) }
 {
     for (k, element) in elements.iter().enumerate() {
-        put_element(out, scope, t, k, element)?;
+        put_element(out, scope, element, t, k)?;
     }
     Ok(())
 }
@@ -122,8 +122,8 @@ fn put_elements(
 fn put_array(
     out: &mut Vec<u8>,
     scope: &Scope,
-    t: &Ty,
     elements: &[Const],
+    t: &Ty,
     gap: &[u8],
 ) -> Result<(), NoMemory>
     ensures { OnOk result (Wrote out.old.items out.new.items (array_const (spelled_by scope.now) gap.now (element_in (out-Ty t.now)) (map (const_pieces (spelled_by scope.now)) elements.now))) }
@@ -131,7 +131,7 @@ fn put_array(
     let void = Ty::Void;
     let element = element_of(&*t, &void);
     put_sign(out, gap, b"[")?;
-    put_elements(out, scope, element, elements)?;
+    put_elements(out, scope, elements, element)?;
     put_sign(out, GLUED, b"]")?;
     Ok(())
 }
@@ -161,15 +161,15 @@ fn behind_first(types: &[Ty]) -> &[Ty]
 fn put_field(
     out: &mut Vec<u8>,
     scope: &Scope,
+    c: &Const,
     types: &[Ty],
     k: usize,
-    c: &Const,
 ) -> Result<(), NoMemory>
     ensures { OnOk result (Wrote out.old.items out.new.items (break_pieces k ++ member (spelled_by scope.now) spaced (get_or types.now 0 Ty.Void) (const_pieces (spelled_by scope.now) c.now))) }
 {
     let void = Ty::Void;
     put_break(out, k)?;
-    put_member(out, scope, first_type(&*types, &void), c, SPACED)?;
+    put_member(out, scope, c, first_type(&*types, &void), SPACED)?;
     Ok(())
 }
 
@@ -178,14 +178,14 @@ fn put_field(
 fn put_all_fields(
     out: &mut Vec<u8>,
     scope: &Scope,
-    types: &[Ty],
     fields: &[Const],
+    types: &[Ty],
 ) -> Result<(), NoMemory>
     ensures { OnOk result (Wrote out.old.items out.new.items (with_commas (λ (gap : List ℕ) (field : List ℕ → List Piece). field gap) spaced (typed (spelled_by scope.now) (map (const_pieces (spelled_by scope.now)) fields.now) types.now))) }
 {
     let mut rest = types;
     for (k, field) in fields.iter().enumerate() {
-        put_field(out, scope, rest, k, field)?;
+        put_field(out, scope, field, rest, k)?;
         rest = behind_first(rest);
     }
     Ok(())
@@ -196,8 +196,8 @@ fn put_all_fields(
 fn put_struct(
     out: &mut Vec<u8>,
     scope: &Scope,
-    t: &Ty,
     fields: &[Const],
+    t: &Ty,
     gap: &[u8],
 ) -> Result<(), NoMemory>
     ensures { OnOk result (Wrote out.old.items out.new.items (struct_const (spelled_by scope.now) gap.now (fields_in (out-Ty t.now)) (map (const_pieces (spelled_by scope.now)) fields.now))) }
@@ -206,7 +206,7 @@ fn put_struct(
         return put_no_braces(out, gap);
     }
     put_sign(out, gap, b"{")?;
-    put_all_fields(out, scope, fields_of(t), fields)?;
+    put_all_fields(out, scope, fields, fields_of(t))?;
     put_sign(out, SPACED, b"}")?;
     Ok(())
 }
@@ -227,9 +227,15 @@ pub(crate) fn put_const(
         Const::Int(n) => put_number(out, width_of(resolved(&*scope, &*t)), gap, *n),
         Const::Str(bytes) => put_text(out, gap, bytes.as_slice()),
         Const::Array(elements) => {
-            put_array(out, scope, resolved(&*scope, &*t), elements.as_slice(), gap)
+            put_array(out, scope, elements.as_slice(), resolved(&*scope, &*t), gap)
         }
-        Const::Struct(fields) => put_struct(out, scope, resolved(&*scope, &*t), fields.as_slice(), gap),
+        Const::Struct(fields) => put_struct(
+            out,
+            scope,
+            fields.as_slice(),
+            resolved(&*scope, &*t),
+            gap,
+        ),
         Const::Address(place) => put_place(out, scope, place, gap),
         Const::AddressAsInt(place) => put_address_as_int(out, scope, t, place, gap),
         Const::IntAsPtr(n) => put_int_as_address(out, gap, *n),

@@ -14,7 +14,9 @@ ghost use Rattle.no_print.specs.Wrote.{Wrote};
 use crate::names::{name_at, put_global, put_label_line, put_string};
 use crate::operands::{put_inserted, put_register};
 use crate::operations::put_op;
-use crate::output::{GLUED, INDENTED, LINED, PARTED, SPACED, gap_at, put_break, put_sign, put_word};
+use crate::output::{
+    GLUED, INDENTED, LINED, PARTED, SPACED, gap_at, put_break, put_sign, put_word,
+};
 use crate::scope::Scope;
 use crate::types::put_type;
 use itoa::Buffer;
@@ -42,12 +44,7 @@ fn put_with_result(
 }
 
 /// Appends an instruction.
-fn put_instr(
-    out: &mut Vec<u8>,
-    scope: &Scope,
-    f: &Function,
-    i: &Instr,
-) -> Result<(), NoMemory>
+fn put_instr(out: &mut Vec<u8>, scope: &Scope, f: &Function, i: &Instr) -> Result<(), NoMemory>
     ensures { OnOk result (Wrote out.old.items out.new.items (instr_pieces (spelled_by scope.now) (locals_of f.now) i.now)) }
 {
     put_with_result(out, scope, f, i.result, &i.op)?;
@@ -78,12 +75,7 @@ fn put_label_of(out: &mut Vec<u8>, f: &Function, l: u32) -> Result<(), NoMemory>
 }
 
 /// Appends a block.
-fn put_block(
-    out: &mut Vec<u8>,
-    scope: &Scope,
-    f: &Function,
-    b: &Block,
-) -> Result<(), NoMemory>
+fn put_block(out: &mut Vec<u8>, scope: &Scope, f: &Function, b: &Block) -> Result<(), NoMemory>
     ensures { OnOk result (Wrote out.old.items out.new.items (label_line lined (name_at_of f.now.labels b.now.label) ++ instrs_pieces (spelled_by scope.now) (locals_of f.now) b.now.instrs)) }
 {
     put_label_of(out, f, b.label)?;
@@ -143,12 +135,7 @@ fn put_attributes(out: &mut Vec<u8>, f: &Function) -> Result<(), NoMemory>
 }
 
 /// Appends what stands before a function's parameters.
-fn put_head(
-    out: &mut Vec<u8>,
-    scope: &Scope,
-    first: &[u8],
-    f: &Function,
-) -> Result<(), NoMemory>
+fn put_head(out: &mut Vec<u8>, scope: &Scope, first: &[u8], f: &Function) -> Result<(), NoMemory>
     ensures { OnOk result (Wrote out.old.items out.new.items (head_pieces (spelled_by scope.now) first.now f.now)) }
 {
     put_word(out, PARTED, first)?;

@@ -14,7 +14,9 @@ ghost use Rattle.no_print.specs.Wrote.{Wrote};
 use crate::constants::put_const;
 use crate::names::{name_at, put_int_type, put_local};
 use crate::numbers::put_number;
-use crate::output::{GLUED, SPACED, gap_at, put_break, put_comma, put_decimal, put_sign, put_token, put_word};
+use crate::output::{
+    GLUED, SPACED, gap_at, put_break, put_comma, put_decimal, put_sign, put_token, put_word,
+};
 use crate::scope::Scope;
 use crate::types::put_type;
 use no_ir::{Function, NoMemory, Operand, Ty};
@@ -166,7 +168,12 @@ fn put_target(out: &mut Vec<u8>, f: &Function, l: u32) -> Result<(), NoMemory>
 }
 
 /// Appends a label as an operand.
-pub(crate) fn put_label(out: &mut Vec<u8>, scope: &Scope, f: &Function, l: u32) -> Result<(), NoMemory>
+pub(crate) fn put_label(
+    out: &mut Vec<u8>,
+    scope: &Scope,
+    f: &Function,
+    l: u32,
+) -> Result<(), NoMemory>
     ensures { OnOk result (Wrote out.old.items out.new.items (label (spelled_by scope.now) (locals_of f.now) l)) }
 {
     put_word(out, SPACED, b"label")?;
@@ -304,7 +311,13 @@ pub(crate) fn put_steps(
 }
 
 /// Appends a case of a `switch`.
-fn put_case(out: &mut Vec<u8>, scope: &Scope, f: &Function, w: u8, case: &(u64, u32)) -> Result<(), NoMemory>
+fn put_case(
+    out: &mut Vec<u8>,
+    scope: &Scope,
+    f: &Function,
+    w: u8,
+    case: &(u64, u32),
+) -> Result<(), NoMemory>
     ensures { OnOk result (Wrote out.old.items out.new.items (int_type spaced w ++ (number w spaced case.now.0 ++ (comma ++ label (spelled_by scope.now) (locals_of f.now) case.now.1)))) }
 {
     put_int_type(out, SPACED, w)?;

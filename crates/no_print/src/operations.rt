@@ -6,8 +6,8 @@ ghost use Rattle.no_print.specs.Scopes.{spelled_by};
 ghost use Rattle.no_print.specs.Wrote.{Wrote};
 
 use crate::operands::{
-    put_address, put_alignment, put_arguments, put_cases, put_count, put_label, put_narrow, put_operand, put_pairs, put_pointer,
-    put_sized, put_steps, put_typed, put_volatile,
+    put_address, put_alignment, put_arguments, put_cases, put_count, put_label, put_narrow,
+    put_operand, put_pairs, put_pointer, put_sized, put_steps, put_typed, put_volatile,
 };
 use crate::output::{GLUED, SPACED, put_comma, put_sign, put_word};
 use crate::scope::Scope;
@@ -293,12 +293,7 @@ fn put_switch(
 }
 
 /// Appends a `ret` without a value behind blanks.
-fn put_ret_void(
-    out: &mut Vec<u8>,
-    scope: &Scope,
-    f: &Function,
-    gap: &[u8],
-) -> Result<(), NoMemory>
+fn put_ret_void(out: &mut Vec<u8>, scope: &Scope, f: &Function, gap: &[u8]) -> Result<(), NoMemory>
     ensures { OnOk result (Wrote out.old.items out.new.items (op_pieces (spelled_by scope.now) (locals_of f.now) gap.now (Op.Ret None))) }
 {
     put_word(out, gap, b"ret")?;

@@ -1,6 +1,6 @@
 #![tactic(auto, using(crate::proofs::Appending::written_append))]
 
-ghost use Rattle.std.specs.Prelude.{◌≡◌, IfOk, OnOk, map};
+ghost use Rattle.std.specs.Prelude.{◌≡◌, ◌++◌, IfOk, OnOk, map};
 ghost use Rattle.std.specs.List.{list_any};
 ghost use Rattle.no_ir.specs.Naming.{with_name};
 ghost use Rattle.no_ir.specs.declared.function.Function.{Function};
@@ -164,6 +164,43 @@ fn function_names(alloc: Global, functions: &[Function]) -> Result<List<Bytes>, 
     names.into_list()
 }
 
+/// The names of a module's globals, each once.
+fn names_of_globals(alloc: Global, program: &Module) -> Result<List<Bytes>, NoMemory>
+    ensures { IfOk result (λ all. all ≡ names_once (map (λ (g : GlobalVar). g.name) program.now.globals)) }
+{
+    global_names(alloc, program.globals.as_slice())
+}
+
+/// The names of a module's functions, each once.
+fn names_of_functions(alloc: Global, program: &Module) -> Result<List<Bytes>, NoMemory>
+    ensures { IfOk result (λ all. all ≡ names_once (map (λ (f : Function). f.name) program.now.functions)) }
+{
+    function_names(alloc, program.functions.as_slice())
+}
+
+/// Appends a module.
+fn put_whole(
+    out: &mut Vec<u8>,
+    program: &Module,
+    types: &[(Bytes, Ty)],
+    globals: &[Bytes],
+    functions: &[Bytes],
+) -> Result<(), NoMemory>
+    requires types { types.now ≡ program.now.types }
+    requires globals { globals.now ≡ names_once (map (λ (g : GlobalVar). g.name) program.now.globals) }
+    requires functions { functions.now ≡ names_once (map (λ (f : Function). f.name) program.now.functions) }
+    ensures { OnOk result (out.new.items ≡ out.old.items ++ module_text program.now) }
+{
+    let scope = Scope {
+        types,
+        globals,
+        functions,
+    };
+    put_module(out, &scope, program)?;
+    put(out, b"\n")?;
+    Ok(())
+}
+
 /// The one spelling of a module, whose lines all end (docs/LANGUAGE.md, "Canonical text").
 ///
 /// It works for every module, also one that no text reads to: a number past the end of a list stands for
@@ -172,15 +209,15 @@ fn function_names(alloc: Global, functions: &[Function]) -> Result<List<Bytes>, 
 pub fn print(alloc: Global, program: &Module) -> Result<Bytes, NoMemory>
     ensures text { IfOk result (λ text. text ≡ module_text program.now) }
 {
-    let globals = global_names(alloc, program.globals.as_slice())?;
-    let functions = function_names(alloc, program.functions.as_slice())?;
-    let scope = Scope {
-        types: program.types.as_slice(),
-        globals: globals.as_slice(),
-        functions: functions.as_slice(),
-    };
+    let globals = names_of_globals(alloc, program)?;
+    let functions = names_of_functions(alloc, program)?;
     let mut out = Vec::new(alloc);
-    put_module(&mut out, &scope, program)?;
-    put(&mut out, b"\n")?;
+    put_whole(
+        &mut out,
+        program,
+        program.types.as_slice(),
+        globals.as_slice(),
+        functions.as_slice(),
+    )?;
     Ok(List::from_vec(out))
 }

@@ -193,7 +193,11 @@ fn push_casts(all: &mut List<Instr>) -> Result<(), NoMemory> {
         Some(5),
         Op::Cast(CastOp::PtrToInt, Ty::Ptr, Operand::Reg(1), Ty::Int(64)),
     )?;
-    keep(all, Some(6), Op::Freeze(Ty::Ptr, Operand::Const(Const::Zero)))?;
+    keep(
+        all,
+        Some(6),
+        Op::Freeze(Ty::Ptr, Operand::Const(Const::Zero)),
+    )?;
     keep(
         all,
         Some(7),
@@ -233,7 +237,11 @@ fn first_block(alloc: Global) -> Result<List<Instr>, NoMemory> {
 fn last_block(alloc: Global) -> Result<List<Instr>, NoMemory> {
     let mut all = List::new(alloc);
     let pairs = vec![in alloc; (number(2), 0), (Operand::Reg(11), 1)]?;
-    keep(&mut all, Some(11), Op::Phi(Ty::Int(32), List::from_vec(pairs)))?;
+    keep(
+        &mut all,
+        Some(11),
+        Op::Phi(Ty::Int(32), List::from_vec(pairs)),
+    )?;
     let cases = List::from_vec(vec![in alloc; (1u64, 0u32), (0xFFFF_FFFE, 1)]?);
     keep(&mut all, None, Op::Switch(32, Operand::Reg(11), 0, cases))?;
     let cases = List::new(alloc);
@@ -256,9 +264,15 @@ fn whole_main(alloc: Global) -> Result<Function, NoMemory> {
     )?;
     main.labels = names(alloc, &[b"b".as_slice(), b"..."])?;
     let first = first_block(alloc)?;
-    main.blocks.push(Block { label: 0, instrs: first })?;
+    main.blocks.push(Block {
+        label: 0,
+        instrs: first,
+    })?;
     let last = last_block(alloc)?;
-    main.blocks.push(Block { label: 1, instrs: last })?;
+    main.blocks.push(Block {
+        label: 1,
+        instrs: last,
+    })?;
     Ok(main)
 }
 

@@ -64,12 +64,7 @@ fn put_all_fields(out: &mut Vec<u8>, scope: &Scope, fields: &[Ty]) -> Result<(),
 
 /// Appends field types in braces behind blanks.
 #[cycle(types)]
-fn put_fields(
-    out: &mut Vec<u8>,
-    scope: &Scope,
-    fields: &[Ty],
-    gap: &[u8],
-) -> Result<(), NoMemory>
+fn put_fields(out: &mut Vec<u8>, scope: &Scope, fields: &[Ty], gap: &[u8]) -> Result<(), NoMemory>
     ensures { OnOk result (Wrote out.old.items out.new.items (in_braces gap.now (fields_with (map (type_pieces (spelled_by scope.now).named) fields.now)))) }
 {
     if fields.len() == 0 {
@@ -83,12 +78,7 @@ fn put_fields(
 
 /// Appends a packed struct type behind blanks.
 #[cycle(types)]
-fn put_packed(
-    out: &mut Vec<u8>,
-    scope: &Scope,
-    fields: &[Ty],
-    gap: &[u8],
-) -> Result<(), NoMemory>
+fn put_packed(out: &mut Vec<u8>, scope: &Scope, fields: &[Ty], gap: &[u8]) -> Result<(), NoMemory>
     ensures { OnOk result (Wrote out.old.items out.new.items (struct_pieces true gap.now (fields_with (map (type_pieces (spelled_by scope.now).named) fields.now)))) }
 {
     put_sign(out, gap, b"<")?;
@@ -117,12 +107,7 @@ fn put_struct(
 
 /// Appends a type behind blanks.
 #[cycle(types)]
-pub(crate) fn put_type(
-    out: &mut Vec<u8>,
-    scope: &Scope,
-    t: &Ty,
-    gap: &[u8],
-) -> Result<(), NoMemory>
+pub(crate) fn put_type(out: &mut Vec<u8>, scope: &Scope, t: &Ty, gap: &[u8]) -> Result<(), NoMemory>
     ensures { OnOk result (Wrote out.old.items out.new.items (type_at (spelled_by scope.now) gap.now t.now)) }
 {
     match t {

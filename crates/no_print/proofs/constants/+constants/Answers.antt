@@ -1,4 +1,4 @@
-use Rattle.std.proofs.Common.{◌≡◌, ◌<◌, ℕ, List, ◌++◌, map, length, refl, sym, ap, ◌∙◌, arith}
+use Rattle.std.proofs.Common.{◌<◌, ℕ, List, ◌++◌, map, length, refl, sym, ap, ◌∙◌, arith}
 use Rattle.no_ir.specs.declared.types.Ty.{Ty}
 use Rattle.no_print.specs.Commas.{break}
 use Rattle.no_print.specs.Constants.{array_const, const_pieces, member, struct_const}

@@ -1,4 +1,4 @@
-use Rattle.std.proofs.Common.{ℕ, List, ◌++◌, sym, append_assoc}
+use Rattle.std.proofs.Common.{◌++◌, sym, append_assoc}
 use Rattle.no_ir.specs.declared.function.Block.{Block}
 use Rattle.no_print.specs.Scopes.{spelled_by}
 use Rattle.no_print.specs.Modules.{blocks_pieces, instrs_pieces, locals_of}

@@ -1,4 +1,4 @@
-use Rattle.std.proofs.Common.{ℕ, List, ◌++◌, sym, ap, ◌∙◌, codes}
+use Rattle.std.proofs.Common.{ℕ, List, ◌++◌, sym, ap, codes}
 use Rattle.no_ir.specs.declared.types.Ty.{Ty}
 use Rattle.no_print.specs.Scopes.{spelled_by}
 use Rattle.no_print.specs.Modules.{attributes, blocks_pieces, head_pieces, locals_of, param_pieces}

@@ -1,4 +1,4 @@
-use Rattle.std.proofs.Common.{ℕ, List, ◌++◌, sym, ap, ◌∙◌, codes}
+use Rattle.std.proofs.Common.{ℕ, List, ◌++◌, sym, ap}
 use Rattle.no_print.specs.Scopes.{spelled_by}
 use Rattle.no_print.specs.Constants.{type_at}
 use Rattle.no_print.specs.Names.{global_name}

@@ -1,9 +1,8 @@
-use Rattle.std.proofs.Common.{ℕ, List, ◌∷◌, ◌++◌, refl}
-use Rattle.std.proofs.lemmas.List.{drop_all, at_drop_all}
+use Rattle.std.proofs.Common.{refl}
 use Rattle.no_print.specs.Scopes.{spelled_by}
 use Rattle.no_print.specs.Instructions.{instr_pieces}
 use Rattle.no_print.specs.Modules.{instrs_pieces, locals_of}
-use Rattle.no_print.proofs.Lists.{after_all, list_step}
+use Rattle.no_print.proofs.Lists.{list_step}
 use Rattle.no_print.proofs.functions.put_instrs.Goals as goal
 
 pub loop-i-preserved : goal.loop-i-preserved

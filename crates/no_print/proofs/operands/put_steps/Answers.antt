@@ -1,11 +1,10 @@
-use Rattle.std.proofs.Common.{ℕ, List, ◌∷◌, ◌++◌, refl}
-use Rattle.std.proofs.lemmas.List.{drop_all, at_drop_all}
+use Rattle.std.proofs.Common.{ℕ, List, ◌++◌, refl}
 use Rattle.no_print.specs.Scopes.{spelled_by}
 use Rattle.no_print.specs.Modules.{locals_of}
 use Rattle.no_ir.specs.declared.instruction.Operand.{Operand}
 use Rattle.no_print.specs.Instructions.{sized}
 use Rattle.no_print.specs.Pieces.{behind_commas, comma}
-use Rattle.no_print.proofs.Lists.{after_all, list_step}
+use Rattle.no_print.proofs.Lists.{list_step}
 use Rattle.no_print.proofs.operands.put_steps.Goals as goal
 
 pub loop-step-preserved : goal.loop-step-preserved

@@ -1,4 +1,4 @@
-use Rattle.std.proofs.Common.{ℕ, List, ◌++◌, sym, ap, ◌∙◌, codes}
+use Rattle.std.proofs.Common.{List, sym, ap}
 use Rattle.no_print.specs.Instructions.{op_pieces}
 use Rattle.no_ir.specs.declared.instruction.Op.TheVariants as op
 use Rattle.no_ir.specs.declared.instruction.Operand.{Operand}

@@ -1,8 +1,7 @@
-use Rattle.std.proofs.Common.{ℕ, List, ◌++◌, sym, ap, ◌∙◌, codes}
+use Rattle.std.proofs.Common.{ℕ, List, sym, ap}
 use Rattle.no_print.specs.Instructions.{op_pieces}
 use Rattle.no_ir.specs.declared.instruction.Op.TheVariants as op
 use Rattle.no_ir.specs.declared.instruction.Operand.{Operand}
-use Rattle.no_ir.specs.declared.types.Ty.{Ty}
 use Rattle.no_print.specs.Scopes.{spelled_by}
 use Rattle.no_print.specs.Modules.{locals_of}
 use Rattle.no_print.proofs.Appending.{left_from, left_last, left_more}

@@ -1,8 +1,7 @@
-use Rattle.std.proofs.Common.{ℕ, List, ◌∷◌, ◌++◌, refl}
-use Rattle.std.proofs.lemmas.List.{drop_all, at_drop_all}
+use Rattle.std.proofs.Common.{refl}
 use Rattle.no_print.specs.Scopes.{spelled_by}
 use Rattle.no_print.specs.Modules.{each, global_pieces}
-use Rattle.no_print.proofs.Lists.{after_all, list_step}
+use Rattle.no_print.proofs.Lists.{list_step}
 use Rattle.no_print.proofs.printing.put_globals.Goals as goal
 
 pub loop-g-preserved : goal.loop-g-preserved

@@ -1,4 +1,4 @@
-use Rattle.std.proofs.Common.{ℕ, List, ◌++◌, sym, ap, ◌∙◌, codes}
+use Rattle.std.proofs.Common.{ℕ, List, ◌++◌, sym, ap, ◌∙◌}
 use Rattle.std.proofs.Common.{Bool}
 use Rattle.std.specs.List.{list_any}
 use Rattle.no_ir.specs.declared.types.Ty.{Ty}
