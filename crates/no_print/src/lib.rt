@@ -17,4 +17,4 @@ mod words;
 pub use printing::print;
 
 #[cfg(test)]
-mod tests;
+mod spellings;
