@@ -4,7 +4,7 @@ use Rattle.std.proofs.lemmas.Bool.{leb-true, le-leb, lt-leb}
 use Rattle.no_lex.specs.declared.token.Token.{Token}
 use Rattle.no_grammar.specs.Spelled.{spelled}
 use Rattle.no_grammar.specs.Unescaped.{is_hex, hex_value, unescaped, inner, is_quoted, name_of}
-use Rattle.no_reread.proofs.Names.{AreBytes}
+use Rattle.no_reread.specs.Spells.{AreBytes}
 use Rattle.no_reread.proofs.Found.{bytes_take, bytes_drop}
 
 both : (a b : Bool) → (a && b) ≡ true → (a ≡ true) × (b ≡ true)

@@ -4,7 +4,7 @@ use Rattle.std.proofs.lemmas.List.Quantifiers.{position-Some}
 use Rattle.std.proofs.lemmas.Option.{unwrap_or-slice_get}
 use Rattle.std.proofs.lemmas.Slice.Eq.{bytes_eq-Decides}
 use Rattle.no_print.specs.Names.{name_at}
-use Rattle.no_reread.proofs.Names.{AreBytes}
+use Rattle.no_reread.specs.Spells.{AreBytes}
 
 -- ---- where a name stands
 

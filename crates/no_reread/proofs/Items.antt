@@ -75,7 +75,7 @@ module _ {S A : Type 0} (text close : List ℕ) (item : Rule S A) where
 
 module _ {S A : Type 0} (Same : S → S → Type 0) (from text close : List ℕ) (item other : Rule S A) (f : List ℕ → A → List Piece) (closing : IsClose close)
     (again : (gap : List ℕ) → Again Same text item other (f gap)) where
-  repeated_again : (s z t : S) (tokens : List Token) (all : List A) → Same s z → IsRepeated (more_item from close item) s tokens all t
+  pub repeated_again : (s z t : S) (tokens : List Token) (all : List A) → Same s z → IsRepeated (more_item from close item) s tokens all t
       → (u : S) × Same t u × EachSpells text other (f spaced) z all u
   repeated_again s z t tokens [] like m = (z, subst (λ v. Same v z) (sym (ended_keeps from close item s t tokens m)) like, refl)
   repeated_again s z t tokens (a ∷ all) like m =

@@ -10,3 +10,7 @@ pub mod Bytes
 pub mod Items
 pub mod SameTypes
 pub mod TypePieces
+pub mod TypeHeads
+pub mod TypesAgain
+pub mod Skipping
+pub mod Places

@@ -4,12 +4,8 @@ use Rattle.std.proofs.lemmas.Bool.{le-leb, lt-leb, leb-true, leb-false, eqb-true
 use Rattle.std.proofs.Math.Seq.{take-append_seam}
 use Rattle.no_lex.specs.Spelling.{is_name_byte, is_name}
 use Rattle.no_grammar.specs.Unescaped.{is_hex, hex_value, unescaped, inner, is_quoted, name_of}
+use Rattle.no_reread.specs.Spells.{AreBytes}
 use Rattle.no_print.specs.Names.{hex_digit, is_plain, escaped_byte, escaped, quoted, spelling}
-
--- each byte is below 256
-abbrev pub AreBytes : List ℕ → Type 0
-AreBytes [] = Unit {0}
-AreBytes (b ∷ bytes) = (b < 256) × AreBytes bytes
 
 -- ---- digits
 

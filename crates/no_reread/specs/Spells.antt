@@ -1,18 +1,28 @@
 -- What pieces of a text spell by a rule.
-use Rattle.std.specs.Prelude.{ℕ, List}
+use Rattle.std.specs.Prelude.{ℕ, ◌<◌, List, [], ◌∷◌}
 use Rattle.no_lex.specs.declared.token.Token.{Token}
 use Rattle.no_grammar.specs.Rules.{Rule}
 use Rattle.no_grammar.specs.Scope.{Meaning}
 use Rattle.no_print.specs.Pieces.{Piece}
 use Rattle.no_print.specs.Stand.{Stand}
+use Rattle.no_print.specs.Constants.{Spelled}
 
 -- whatever tokens of the text stand as these pieces, the rule gives them this value and this state behind it
 abbrev pub Spells : {S A : Type 0} → List ℕ → Rule S A → S → List Piece → A → S → Type 0
 Spells text p s pieces a t = (tokens : List Token) → Stand text tokens pieces → p.means s tokens a t
 
+-- each byte is below 256
+abbrev pub AreBytes : List ℕ → Type 0
+AreBytes [] = Unit {0}
+AreBytes (b ∷ bytes) = (b < 256) × AreBytes bytes
+
 -- the same names and types over another text
 abbrev pub over : Meaning → List ℕ → Meaning
 over m text = record { text = text; named = m.named; types = m.types; globals = m.globals; functions = m.functions }
+
+-- how these names are spelled
+abbrev pub spelled_by : Meaning → Spelled
+spelled_by m = record { named = m.named; types = m.types; globals = m.globals; functions = m.functions }
 
 -- what a rule read is spelled for the other rule, from any state that is like the one that it was read from, to a state that is like the one behind it
 abbrev pub Again : {S A : Type 0} → (S → S → Type 0) → List ℕ → Rule S A → Rule S A → (A → List Piece) → Type 0

@@ -1,0 +1,8 @@
+use Rattle.no_reread.proofs.TypesAgain.{type_again, same_again}
+use Rattle.no_reread.proofs.types.types_mean_again.Goals as goal
+
+pub returns-clause-any : goal.returns-clause-any
+returns-clause-any c m text depth gap tokens t bytes r = (type_again m text bytes depth gap tt tt tt tokens t tt r).2
+
+pub returns-clause-wanted : goal.returns-clause-wanted
+returns-clause-wanted c m text depth gap tokens want bytes r = same_again m text bytes depth want gap tokens r
