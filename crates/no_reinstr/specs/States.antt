@@ -1,19 +1,13 @@
 -- States of two texts that are read side by side: the second names everything in writing, where the first may have left names out.
-use Rattle.std.specs.Prelude.{◌≡◌, ℕ, ◌<◌, List, [], ◌∷◌}
+use Rattle.std.specs.Prelude.{◌≡◌, ℕ, List, [], ◌∷◌}
 use Rattle.no_locals.specs.declared.locals.Locals.{Locals}
-use Rattle.no_grammar.specs.Scope.{Meaning}
-use Rattle.no_print.specs.Constants.{Spelled}
+use Rattle.no_reread.specs.Spells.{AreBytes}
 use Rattle.no_print.specs.Instructions as print
 
 -- the same registers and labels, and any counter
 pub record Like (s z : Locals) : Type 0 where
   pub registers : z.registers ≡ s.registers
   pub labels : z.labels ≡ s.labels
-
--- each byte is below 256
-abbrev pub AreBytes : List ℕ → Type 0
-AreBytes [] = Unit {0}
-AreBytes (b ∷ bytes) = (b < 256) × AreBytes bytes
 
 abbrev pub AreNames : List (List ℕ) → Type 0
 AreNames [] = Unit {0}
@@ -24,10 +18,6 @@ pub record IsFine (s : Locals) : Type 0 where
   pub registers : AreNames s.registers
   pub labels : AreNames s.labels
   pub counter : AreBytes s.counter
-
--- how the names of a text are spelled
-abbrev pub spelled_by : Meaning → Spelled
-spelled_by m = record { named = m.named; types = m.types; globals = m.globals; functions = m.functions }
 
 -- the names of a state
 abbrev pub named_by : Locals → print.Locals
