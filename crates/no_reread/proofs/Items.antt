@@ -10,13 +10,13 @@ use Rattle.no_reread.specs.Spells.{Spells, Again}
 use Rattle.no_reread.proofs.Opening.{Opens, kept_state}
 use Rattle.no_reread.proofs.Listing.{EachSpells, IsClose, items_spell, no_items_spell}
 
-none_some : {A : Type 0} (a : A) → None ≡ Some a → ⊥
+pub none_some : {A : Type 0} (a : A) → None ≡ Some a → ⊥
 none_some a e = cc
 
-some_none : {A : Type 0} (a : A) → Some a ≡ None → ⊥
+pub some_none : {A : Type 0} (a : A) → Some a ≡ None → ⊥
 some_none a e = cc
 
-some_some : {A : Type 0} (a b : A) → Some a ≡ Some b → a ≡ b
+pub some_some : {A : Type 0} (a b : A) → Some a ≡ Some b → a ≡ b
 some_some a b e = cc
 
 module _ {S A : Type 0} (text close : List ℕ) (item : Rule S A) where

@@ -14,3 +14,7 @@ pub mod TypeHeads
 pub mod TypesAgain
 pub mod Skipping
 pub mod Places
+pub mod ConstPieces
+pub mod ConstHeads
+pub mod ConstFirst
+pub mod ConstsAgain

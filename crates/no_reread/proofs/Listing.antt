@@ -62,11 +62,11 @@ module _ {S A : Type 0} (text close gap : List ℕ) (item : Rule S A) (closing :
       if piece_is_sign close (record { gap = []; kind = k; bytes = bytes }) then Ok true
       else (if piece_is_sign (codes ",") (record { gap = []; kind = k; bytes = bytes }) then Ok false else Err Syntax)
 
-  closes : (s : S) → Spells text (plain (closes_list text close)) s (sign gap close) true s
+  pub closes : (s : S) → Spells text (plain (closes_list text close)) s (sign gap close) true s
   closes s = plain_spells text closes_by s (record { gap = gap; kind = kind.Sign; bytes = close }) true
       (ap (λ b. if b then Ok true else (if bytes_eq close (codes ",") then Ok false else Err Syntax)) closing.same)
 
-  goes_on : (s : S) → Spells text (plain (closes_list text close)) s comma false s
+  pub goes_on : (s : S) → Spells text (plain (closes_list text close)) s comma false s
   goes_on s = plain_spells text closes_by s (record { gap = []; kind = kind.Sign; bytes = 44 ∷ [] }) false
       (ap (λ b. if b then Ok true else (if bytes_eq (44 ∷ []) (codes ",") then Ok false else Err Syntax)) closing.other)
 

@@ -32,7 +32,7 @@ type_opens m zero close r = checked_opens (is_sign m.text close) false (plain (t
 type_opens m (suc depth) close r =
     then_opens (is_sign m.text close) false (plain (type_head m)) (after_type_head m (a_type m depth)) (plain_opens (is_sign m.text close) false (type_head m) (head_no_sign m close r))
 
-brace : IsClose (codes "}")
+pub brace : IsClose (codes "}")
 brace = record { same = refl; other = refl }
 
 -- ---- braces
@@ -55,10 +55,15 @@ abbrev pub brace_gap : {A : Type 0} → List A → List ℕ
 brace_gap [] = glued
 brace_gap (a ∷ all) = spaced
 
-pub braces_are : {A : Type 0} (gap : List ℕ) (f : List ℕ → A → List Piece) (all : List A) → ((a : A) (others : List A) → all ≡ a ∷ others → HasPiece (f spaced a))
+-- the first of a list has a piece
+abbrev pub FirstHas : {A : Type 0} → (List ℕ → A → List Piece) → List A → Type 0
+FirstHas f [] = Unit {0}
+FirstHas f (a ∷ all) = HasPiece (f spaced a)
+
+pub braces_are : {A : Type 0} (gap : List ℕ) (f : List ℕ → A → List Piece) (all : List A) → FirstHas f all
     → in_braces gap (with_commas f spaced all) ≡ sign gap (codes "{") ++ (with_commas f spaced all ++ sign (brace_gap all) (codes "}"))
 braces_are gap f [] h = refl
-braces_are gap f (a ∷ all) h = braces_filled gap (f spaced a) (behind_commas (f spaced) all) (h a all refl)
+braces_are gap f (a ∷ all) h = braces_filled gap (f spaced a) (behind_commas (f spaced) all) h
 
 -- ---- forms
 
@@ -107,13 +112,13 @@ module _ (m : Meaning) (text : List ℕ) (bytes : AreBytes m.text) where
       (items_again Units m.text text (codes "}") (a_type m depth) (a_type (over m text) depth) (λ gap t. type_pieces m.named t gap) brace inner
         (type_opens (over m text) depth (codes "}") refl) spaced (brace_gap all) tt tt tt tokens all tt r).2
 
-  -- each field has a piece
-  field_pieces : (depth : ℕ) (inner : Inner depth) (tokens : List Token) (all : List Ty) → (items m.text (codes "}") (a_type m depth)).means tt tokens all tt
-      → (t : Ty) (others : List Ty) → all ≡ t ∷ others → HasPiece (type_pieces m.named t spaced)
-  field_pieces depth inner tokens all r t others e = by (subst (λ l. ItemsAre m.text (codes "}") (a_type m depth) tt l tt) e (items_are m.text (codes "}") (a_type m depth) tt tt tokens all r))
+  -- the first field has a piece
+  field_pieces : (depth : ℕ) (inner : Inner depth) (tokens : List Token) (all : List Ty) → (items m.text (codes "}") (a_type m depth)).means tt tokens all tt → FirstHas (λ gap t. type_pieces m.named t gap) all
+  field_pieces depth inner tokens all r = by all (items_are m.text (codes "}") (a_type m depth) tt tt tokens all r)
     where
-      by : ItemsAre m.text (codes "}") (a_type m depth) tt (t ∷ others) tt → HasPiece (type_pieces m.named t spaced)
-      by i = has_piece text (a_type (over m text) depth) tt tt t (type_pieces m.named t spaced) (type_solid (over m text) depth) (inner spaced tt tt tt i.used t tt i.first).2
+      by : (all : List Ty) → ItemsAre m.text (codes "}") (a_type m depth) tt all tt → FirstHas (λ gap t. type_pieces m.named t gap) all
+      by [] i = tt
+      by (t ∷ others) i = has_piece text (a_type (over m text) depth) tt tt t (type_pieces m.named t spaced) (type_solid (over m text) depth) (inner spaced tt tt tt i.used t tt i.first).2
 
   abbrev fields_of : List Ty → List Piece
   fields_of all = with_commas (λ gap t. type_pieces m.named t gap) spaced all

@@ -1,5 +1,7 @@
 -- What pieces of a text spell by a rule.
-use Rattle.std.specs.Prelude.{ℕ, ◌<◌, List, [], ◌∷◌}
+use Rattle.std.specs.Prelude.{ℕ, ◌<◌, ◌≤◌, List, [], ◌∷◌}
+use Rattle.no_ir.specs.declared.types.Ty.{Ty, out-Ty}
+use Rattle.no_ir.specs.declared.types.Ty.TheOpen.{Ty-F}
 use Rattle.no_lex.specs.declared.token.Token.{Token}
 use Rattle.no_grammar.specs.Rules.{Rule}
 use Rattle.no_grammar.specs.Scope.{Meaning}
@@ -28,3 +30,17 @@ spelled_by m = record { named = m.named; types = m.types; globals = m.globals; f
 abbrev pub Again : {S A : Type 0} → (S → S → Type 0) → List ℕ → Rule S A → Rule S A → (A → List Piece) → Type 0
 Again {S = S} {A = A} Same text p q pieces =
     (s z t : S) (tokens : List Token) (a : A) → Same s z → p.means s tokens a t → (u : S) × Same t u × Spells text q z (pieces a) a u
+
+-- ---- integer types that integers can be written at
+
+-- an integer type is of 1 to 64 bits
+abbrev pub WidthFits : Ty-F Ty → Type 0
+WidthFits (Ty-F.Int w) = (0 < w) × (w ≤ 64)
+WidthFits _ = Unit {0}
+
+abbrev pub TypeFits : Ty → Type 0
+TypeFits t = WidthFits (out-Ty t)
+
+abbrev pub TypesFit : List Ty → Type 0
+TypesFit [] = Unit {0}
+TypesFit (t ∷ types) = TypeFits t × TypesFit types
