@@ -1,3 +1,5 @@
 pub mod Within
 pub mod Returning
 pub mod Registers
+pub mod Beginnings
+pub mod Operands
