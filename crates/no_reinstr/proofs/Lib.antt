@@ -3,3 +3,4 @@ pub mod Returning
 pub mod Registers
 pub mod Beginnings
 pub mod Operands
+pub mod Ends

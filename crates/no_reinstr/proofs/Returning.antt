@@ -1,5 +1,5 @@
 -- What pieces spell of a function's body, where the states of two texts go on side by side.
-use Rattle.std.proofs.Common.{◌≡◌, ℕ, Bool, true, false, List, [], ◌∷◌, ◌++◌, Option, Some, None, refl, sym, ap, subst, ◌∙◌}
+use Rattle.std.proofs.Common.{◌≡◌, ℕ, suc, zero, Bool, true, false, List, [], ◌∷◌, ◌++◌, Option, Some, None, refl, sym, ap, subst, ◌∙◌}
 use Rattle.no_lex.specs.declared.token.Token.{Token}
 use Rattle.no_grammar.specs.Repeated.{repeat}
 use Rattle.no_grammar.specs.Rules.{Rule, done, ◌>>=◌, lift, if_next, next_is}
@@ -13,7 +13,7 @@ use Rattle.no_reread.specs.Spells.{Spells}
 use Rattle.no_reread.proofs.Frame.{done_spells, lift_spells, yes_spells, no_spells, then_spells, made_spells}
 use Rattle.no_reread.proofs.Listing.{repeat_end, repeat_more}
 use Rattle.no_reread.proofs.Skipping.{behind_spells}
-use Rattle.no_reread.proofs.Standing.{Begins}
+use Rattle.no_reread.proofs.Standing.{Begins, stand_none, stand_parts}
 use Rattle.no_reinstr.specs.States.{Like, IsFine}
 use Rattle.no_reinstr.proofs.Within.{Within}
 
@@ -28,6 +28,21 @@ pub record Returns {A : Type 0} (text : List ℕ) (last : Locals) (q : Rule Loca
   pub holds : Holds last t → Holds last s
   pub spells : IsFine s → Holds last t → (z : Locals) → Like s z → (u : Locals) × Like t u × Spells text q z pieces a u
 
+-- ---- rules that go on as long as the next token passes
+
+module _ {S A : Type 0} (text : List ℕ) (test : Token → Bool) (step : A → Rule S A) where
+  pub no_steps_spell : (a : A) (s : S) → Spells text (folded test step a) s [] a s
+  no_steps_spell a s tokens stand = (zero, stand_none text tokens stand, refl, refl)
+
+  pub step_spells : (front back : List Piece) (a v b : A) (s u t : S) → Begins text test true front → Spells text (step a) s front v u → Spells text (folded test step v) u back b t
+      → Spells text (folded test step a) s (front ++ back) b t
+  step_spells front back a v b s u t first x y tokens stand =
+      let r = stand_parts text tokens front back stand in
+      let k = y r.back r.in_back in
+      (suc k.0, record { front = r.front; back = r.back; value = v; between = u; parts = r.parts; begins = first r.front r.in_front; first = x r.front r.in_front; others = k.1 })
+
+-- ---- what pieces spell
+
 module _ {A : Type 0} {text : List ℕ} {last : Locals} where
   pub ending : {q : Rule Locals A} {pieces : List Piece} {a : A} {s t u : Locals} → t ≡ u → Returns text last q pieces a s u → Returns text last q pieces a s t
   ending {q = q} {pieces = pieces} {a = a} {s = s} e x = subst (λ v. Returns text last q pieces a s v) (sym e) x
@@ -41,6 +56,13 @@ module _ {A : Type 0} {text : List ℕ} {last : Locals} where
   pub lift_returns : (p : Rule (Unit {0}) A) {pieces : List Piece} {a : A} {s : Locals} → Spells text p tt pieces a tt → Returns text last (lift p) pieces a s s
   lift_returns p {pieces = pieces} {a = a} x = record { fine = λ h. h; holds = λ w. w; spells = λ h w z l. (z, l, lift_spells text p z pieces a x) }
 
+  pub lifted : (p : Rule (Unit {0}) A) {pieces : List Piece} {a : A} {s t : Locals} → t ≡ s → Spells text p tt pieces a tt → Returns text last (lift p) pieces a s t
+  lifted p e x = ending e (lift_returns p x)
+
+  -- pieces of a value that is another
+  pub value_is : (q : Rule Locals A) (pieces : A → List Piece) {a b : A} {s t : Locals} → b ≡ a → Returns text last q (pieces a) a s t → Returns text last q (pieces b) b s t
+  value_is q pieces {s = s} {t = t} e x = subst (λ c. Returns text last q (pieces c) c s t) (sym e) x
+
   module _ {pieces : List Piece} {a : A} {s t : Locals} where
     pub yes_returns : {test : Token → Bool} {p q : Rule Locals A} → Begins text test true pieces → Returns text last p pieces a s t → Returns text last (if_next test p q) pieces a s t
     yes_returns {test = test} {p = p} {q = q} b x = record { fine = x.fine; holds = x.holds; spells = λ h w z l. let r = x.spells h w z l in (r.0, r.1, yes_spells text test p q z pieces a r.0 b r.2) }
@@ -50,6 +72,18 @@ module _ {A : Type 0} {text : List ℕ} {last : Locals} where
 
     pub behind_returns : {test : Token → Bool} {p : Rule Locals A} → Begins text test false pieces → Returns text last p pieces a s t → Returns text last (behind test p) pieces a s t
     behind_returns {test = test} {p = p} b x = record { fine = x.fine; holds = x.holds; spells = λ h w z l. let r = x.spells h w z l in (r.0, r.1, behind_spells text test p z pieces a r.0 b r.2) }
+
+  -- a step, and those behind it
+  pub step_returns : {test : Token → Bool} {step : A → Rule Locals A} {front back : List Piece} {a v b : A} {s u t : Locals} → Begins text test true front
+      → Returns text last (step a) front v s u → Returns text last (folded test step v) back b u t → Returns text last (folded test step a) (front ++ back) b s t
+  step_returns {test = test} {step = step} {front = front} {back = back} {a = a} {v = v} {b = b} first x y = record {
+    fine = λ h. y.fine (x.fine h);
+    holds = λ w. x.holds (y.holds w);
+    spells = λ h w z l. let r = x.spells h (y.holds w) z l in let k = y.spells (x.fine h) w r.0 r.1 in (k.0, k.1, step_spells text test step front back a v b z r.0 k.0 first r.2 k.2);
+  }
+
+  pub no_steps : {test : Token → Bool} {step : A → Rule Locals A} (a : A) {s : Locals} → Returns text last (folded test step a) [] a s s
+  no_steps {test = test} {step = step} a {s = s} = record { fine = λ h. h; holds = λ w. w; spells = λ h w z l. (z, l, no_steps_spell text test step a z) }
 
   -- steps that repeat
   pub end_returns : {step : Rule Locals (Option A)} {pieces : List Piece} {s t : Locals} → Returns text last step pieces None s t → Returns text last (repeat step) pieces [] s t
