@@ -1,5 +1,5 @@
 -- What follows an instruction behind commas is read again: no alignment, and at most the one attachment that marks it.
-use Rattle.std.proofs.Common.{◌≡◌, ℕ, suc, zero, Bool, true, false, ◌||◌, ◌&&◌, List, [], ◌∷◌, ◌++◌, bytes_eq, codes, Result, Ok, Err, inl, inr, if◌then◌else◌, refl, sym, ap, subst, ◌∙◌}
+use Rattle.std.proofs.Common.{◌≡◌, ℕ, suc, zero, Bool, true, false, ◌||◌, ◌&&◌, ◌==◌, List, [], ◌∷◌, ◌++◌, bytes_eq, codes, Result, Ok, Err, inl, inr, if◌then◌else◌, refl, sym, ap, subst, ◌∙◌}
 use Rattle.no_lex.specs.declared.token.Token.{Token}
 use Rattle.no_lex.specs.declared.token.TokenKind.{TokenKind}
 use Rattle.no_lex.specs.declared.token.TokenKind.TheVariants as kind
@@ -15,6 +15,7 @@ use Rattle.no_forms.specs.declared.ends.Ending.{Ending}
 use Rattle.no_forms.specs.Ends.{is_comma, an_alignment, names_node, node_is, marks, an_attachment, opens_alignment, end_alignment, end_attachment, end_step, ends, end_mark, finish, ended}
 use Rattle.no_forms.specs.Folded.{AreSteps, folded}
 use Rattle.no_print.specs.Pieces.{Piece, spaced, glued, piece, sign, comma}
+use Rattle.no_print.specs.Stand.{IsPiece}
 use Rattle.no_print.specs.Instructions.{inserted_pieces}
 use Rattle.no_reread.specs.Spells.{Spells}
 use Rattle.no_reread.proofs.Frame.{plain_spells, done_spells, then_spells, made_spells, no_spells}
@@ -65,11 +66,11 @@ abbrev pub mark_pieces : List Piece
 mark_pieces = piece kind.Meta spaced (codes "!no.x") ++ piece kind.Meta spaced (codes "!0")
 
 module _ (text : List ℕ) where
-  node_by : List ℕ → TokenKind → List ℕ → Result Bool Flaw
+  abbrev node_by : List ℕ → TokenKind → List ℕ → Result Bool Flaw
   node_by name k bytes = if kind_number k == kind_number kind.Meta && names_node bytes then Ok (bytes_eq bytes name) else Err Syntax
 
   pub attachment_spells : Spells text (an_attachment text Part false) tt mark_pieces true tt
-  unfolding an_attachment node_by
+  unfolding an_attachment
   attachment_spells =
       then_spells text _ _ tt tt tt (piece kind.Meta spaced (codes "!no.x")) (piece kind.Meta spaced (codes "!0")) true true
         (plain_spells {S = Unit {0}} text (node_by (codes "!no.x")) tt (record { gap = spaced; kind = kind.Meta; bytes = codes "!no.x" }) true refl)
@@ -82,7 +83,7 @@ module _ (text : List ℕ) where
   no_alignment : (aligns : Bool) → Begins text (opens_alignment text (record { aligns = aligns; inserted = false })) false mark_pieces
   no_alignment aligns = begins text (opens_alignment text (record { aligns = aligns; inserted = false })) false mark_pieces (by aligns)
     where
-      by : (aligns : Bool) (token : Token) → _ → (aligns && is_word text (codes "align") token) ≡ false
+      by : (aligns : Bool) (token : Token) → IsPiece text token (record { gap = spaced; kind = kind.Meta; bytes = codes "!no.x" }) → (aligns && is_word text (codes "align") token) ≡ false
       by true token h = word_tested text (codes "align") (record { gap = spaced; kind = kind.Meta; bytes = codes "!no.x" }) token h
       by false token h = refl
 

@@ -4,3 +4,7 @@ pub mod Registers
 pub mod Beginnings
 pub mod Operands
 pub mod Ends
+pub mod Forms
+pub mod Lists
+pub mod Memory
+pub mod Flow

@@ -32,7 +32,7 @@ pub record Returns {A : Type 0} (text : List ℕ) (last : Locals) (q : Rule Loca
 
 module _ {S A : Type 0} (text : List ℕ) (test : Token → Bool) (step : A → Rule S A) where
   pub no_steps_spell : (a : A) (s : S) → Spells text (folded test step a) s [] a s
-  no_steps_spell a s tokens stand = (zero, stand_none text tokens stand, refl, refl)
+  no_steps_spell a s tokens stand = (zero, (stand_none text tokens stand, refl, refl))
 
   pub step_spells : (front back : List Piece) (a v b : A) (s u t : S) → Begins text test true front → Spells text (step a) s front v u → Spells text (folded test step v) u back b t
       → Spells text (folded test step a) s (front ++ back) b t
