@@ -24,8 +24,8 @@ use Rattle.no_forms.specs.Flow.{return_void, return_value, ret, branch, branch_i
 use Rattle.no_print.specs.Names.{name_at, local_name, int_type, number, truth, signed}
 use Rattle.no_print.specs.Pieces.{Piece, spaced, glued, comma, word, sign, piece, behind_commas}
 use Rattle.no_print.specs.Constants.{type_at}
-use Rattle.no_print.specs.Instructions.{inserted_pieces, operand_pieces, label, pair_pieces, case_pieces}
-use Rattle.no_reread.specs.Spells.{AreBytes, Spells, TypesFit, over, spelled_by}
+use Rattle.no_print.specs.Instructions.{inserted_pieces, operand_pieces, label, pair_pieces, case_pieces, op_pieces}
+use Rattle.no_reread.specs.Spells.{AreBytes, Spells, TypeFits, TypesFit, over, spelled_by}
 use Rattle.no_reread.proofs.Frame.{plain_spells, checked_spells}
 use Rattle.no_reread.proofs.Numbers.{integer_again}
 use Rattle.no_reread.proofs.Opening.{kept_value}
@@ -65,6 +65,9 @@ width_passes want w e = by (w == want) refl e
 -- parts that stand behind one another, and what stands behind them all
 regroup : (a b : Piece) (n l r i : List Piece) → (a ∷ (n ++ (b ∷ l))) ++ (r ++ i) ≡ (a ∷ (n ++ (b ∷ (l ++ r)))) ++ i
 regroup a b n l r i = simp append_assoc
+
+stretched : (a b g i : List Piece) → a ++ (b ++ (g ++ i)) ≡ (a ++ (b ++ g)) ++ i
+stretched a b g i = simp append_assoc
 
 module _ (m : Meaning) (text : List ℕ) (bytes : AreBytes m.text) (fit : TypesFit m.types) (last : Locals) where
   abbrev shown : Ty → Operand → List Piece
@@ -204,3 +207,51 @@ module _ (m : Meaning) (text : List ℕ) (bytes : AreBytes m.text) (fit : TypesF
             (then_returns (sign_back m text bytes fit last spaced (codes "[") refl l.in_back.in_front.1)
             (made_returns (cases_back w width l.in_back.between k.between k.front k.first k.in_front)))))));
       })
+
+  -- ---- `phi`
+
+  abbrev pair_shown : Ty → Operand × ℕ → List Piece
+  pair_shown of = pair_pieces (spelled_by m) (named_by last) of spaced
+
+  pair_opens : (of : Ty) (p : Operand × ℕ) → Begins text (λ t. not (is_kind kind.Meta t)) true (pair_shown of p)
+  pair_opens of p = begins text (λ t. not (is_kind kind.Meta t)) true (pair_shown of p) (λ token h. ap not (kind_tested text kind.Meta _ token h))
+
+  pair_back : (of : Ty) → TypeFits of → (s t : Locals) (tokens : List Token) (p : Operand × ℕ) → (a_pair m of).means s tokens p t → Returns text last (a_pair (over m text) of) (pair_shown of p) p s t
+  unfolding a_pair
+  pair_back of fits s t tokens p r =
+      let x = r.in_back in
+      let l = x.in_back.in_back in
+      let close = l.in_back in
+      value_is (a_pair (over m text) of) (pair_shown of) close.in_back.1 (ending close.in_back.2
+        (then_returns (sign_back m text bytes fit last spaced (codes "[") refl r.in_front.1)
+        (then_returns (operand_back m text bytes fit last of fits x.front x.first x.in_front)
+        (then_returns (sign_back m text bytes fit last glued (codes ",") refl x.in_back.in_front.1)
+        (then_returns (label_name_again m.text text bytes last spaced x.in_back.between l.between l.front l.first l.in_front)
+        (made_returns (sign_back m text bytes fit last spaced (codes "]") refl close.in_front.1)))))))
+
+  pub phi_back : (role : Role) (s t : Locals) (tokens : List Token) (x : Op × Bool) → (phi m role).means s tokens x t → FormBack m text last (phi (over m text) role) (codes "phi") x s t
+  unfolding phi
+  phi_back role s t tokens x r =
+      let of : Ty = r.first in
+      let fits = type_fits m text bytes fit last s r.between r.front of r.in_front in
+      let p = r.in_back in
+      let all = p.in_back in
+      let b : Bool = all.first.inserted in
+      let l = listed_back m.text text last role (a_pair m of) (a_pair (over m text) of) (pair_shown of) (pair_back of fits) (λ s t tokens a r. pair_opens of a)
+          p.between all.between all.front (p.first ∷ []) all.first all.in_front in
+      let is : x ≡ (op.Phi of (p.first ∷ l.more), b) = all.in_back.1 ∙ ap (λ (items : List (Operand × ℕ)). let y : Op × Bool = (op.Phi of items, b) in y) l.are in
+      subst (λ x. FormBack m text last (phi (over m text) role) (codes "phi") x s t) (sym is) (record {
+        pieces = type_shown of ++ (pair_shown of p.first ++ behind_commas (pair_shown of) l.more);
+        are = λ gap. refl;
+        back = ending all.in_back.2 (pieces_are (stretched (type_shown of) (pair_shown of p.first) (behind_commas (pair_shown of) l.more) (inserted_pieces b))
+            (then_returns (type_back m text bytes fit last spaced r.front of r.in_front)
+            (then_returns (pair_back of fits r.between p.between p.front p.first p.in_front)
+            (made_returns l.back))));
+      })
+
+  -- ---- `unreachable`
+
+  pub unreachable_back : (role : Role) (s t : Locals) (tokens : List Token) (x : Op × Bool) → (finish m.text role false op.Unreachable).means s tokens x t → FormBack m text last (finish text role false op.Unreachable) (codes "unreachable") x s t
+  unreachable_back role s t tokens x r =
+      let f = finish_back m.text text last role false op.Unreachable tokens x r in
+      record { pieces = []; are = λ gap. ap (λ (y : Op × Bool). op_pieces (spelled_by m) (named_by last) gap y.0) f.0; back = f.1 }

@@ -8,3 +8,5 @@ pub mod Forms
 pub mod Lists
 pub mod Memory
 pub mod Flow
+pub mod Allocas
+pub mod Calls
