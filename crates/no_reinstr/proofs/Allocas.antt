@@ -222,3 +222,132 @@ module _ (m : Meaning) (text : List ℕ) (bytes : AreBytes m.text) (fit : TypesF
       → Returns text last (alloca_step (over m text) role alloca_start) (comma ++ sized (spelled_by m) (named_by last) x.0 x.1) (end_of false true (Some x) None) s u
   unfolding alloca_step stated_count
   count_step x h = then_returns (comma_back text last refl) (no_returns (no_align_word x) (yes_returns (count_first x) (made_returns h)))
+
+  -- ---- an alignment, or none
+
+  abbrev tail : AllocaEnd → List Piece
+  tail all = alignment_pieces all.align ++ inserted_pieces all.inserted
+
+  by_alignment : (c : Bool) (k : Option (ℕ × Operand)) (a : ℕ) → IsAlignment a → (all : AllocaEnd) (s t : Locals) → Same m text bytes fit last role (end_of false false k (Some a)) all s t → EndBack (end_of c true k None) (tail all) all s t
+  by_alignment c k a h all s t x =
+      let y = mark_alone false false k (Some a) all s t x in
+      record {
+        value = y.value;
+        count = y.count;
+        align = y.align;
+        inserted = y.inserted;
+        back = subst (λ l. Returns text last (After (end_of c true k None)) (alignment_pieces l ++ inserted_pieces all.inserted) y.value s t) (sym x.align)
+            (step_returns (comma_first text (align_pieces a)) (align_step c k a h) y.back);
+      }
+
+  by_mark : (c : Bool) (k : Option (ℕ × Operand)) (all : AllocaEnd) (s t : Locals) → Same m text bytes fit last role (end_of c true k None) all s t → EndBack (end_of c true k None) (tail all) all s t
+  by_mark c k all s t x =
+      let y = mark_alone c true k None all s t x in
+      subst (λ l. EndBack (end_of c true k None) (alignment_pieces l ++ inserted_pieces all.inserted) all s t) (sym x.align) y
+
+  abbrev Run : ℕ → Locals → List Token → AllocaEnd → AllocaEnd → Locals → Type 0
+  Run = Steps m text bytes fit last role
+
+  -- nothing is left
+  no_more : (c : Bool) (k : Option (ℕ × Operand)) (all : AllocaEnd) (s t : Locals) → all ≡ end_of c true k None → t ≡ s → Same m text bytes fit last role (end_of c true k None) all s t
+  no_more c k all s t is state = record {
+    count = ap (λ (x : AllocaEnd). x.count) is;
+    align = ap (λ (x : AllocaEnd). x.align) is;
+    fits = subst (λ (x : AllocaEnd). MarkFits role x.inserted) (sym is) (no_mark role);
+    state = state;
+  }
+
+  aligned_case : (c : Bool) (k : Option (ℕ × Operand)) (n : ℕ) (s u t : Locals) (tokens rest : List Token) (v all : AllocaEnd) → (stated_alignment m.text (end_of c true k None)).means s tokens v u → Run n u rest v all t
+      → (all.count ≡ k) × EndBack (end_of c true k None) (tail all) all s t
+  unfolding stated_alignment
+  aligned_case c k n s u t tokens rest v all r others =
+      let is = r.in_back.1 in
+      let x = closed m text bytes fit last role n u t rest v all (ap (λ (e : AllocaEnd). e.counts) is) (ap (λ (e : AllocaEnd). e.aligns) is) (subst (λ (e : AllocaEnd). MarkFits role e.inserted) (sym is) (no_mark role)) others in
+      let y : Same m text bytes fit last role (end_of false false k (Some r.first)) all s t = record {
+        count = x.count ∙ ap (λ (e : AllocaEnd). e.count) is;
+        align = x.align ∙ ap (λ (e : AllocaEnd). e.align) is;
+        fits = x.fits;
+        state = x.state ∙ r.in_back.2 ∙ r.in_front.1;
+      } in
+      (y.count, by_alignment c k r.first (alignment_read m.text r.front r.first r.in_front.0) all s t y)
+
+  marked_case : (c : Bool) (k : Option (ℕ × Operand)) (n : ℕ) (s u t : Locals) (tokens rest : List Token) (v all : AllocaEnd) → (alloca_attachment m.text role (end_of c true k None)).means s tokens v u → Run n u rest v all t
+      → (all.count ≡ k) × EndBack (end_of c true k None) (tail all) all s t
+  marked_case c k n s u t tokens rest v all r others =
+      let z = attachment_value m text bytes fit last role (end_of c true k None) v s u tokens r (no_mark role) in
+      let is = z.1 in
+      let x = closed m text bytes fit last role n u t rest v all (ap (λ (e : AllocaEnd). e.counts) is) (ap (λ (e : AllocaEnd). e.aligns) is) (subst (λ (e : AllocaEnd). MarkFits role e.inserted) (sym is) z.2) others in
+      let y : Same m text bytes fit last role (end_of c true k None) all s t = record {
+        count = x.count ∙ ap (λ (e : AllocaEnd). e.count) is;
+        align = x.align ∙ ap (λ (e : AllocaEnd). e.align) is;
+        fits = x.fits;
+        state = x.state ∙ z.3;
+      } in
+      (y.count, by_mark c k all s t y)
+
+  abbrev Counted : Option (ℕ × Operand) → AllocaEnd → Locals → Locals → Type 0
+  Counted k all s t = (all.count ≡ k) × EndBack (end_of false true k None) (tail all) all s t
+
+  -- behind a count
+  after_count : (k : Option (ℕ × Operand)) (n : ℕ) (s t : Locals) (tokens : List Token) (all : AllocaEnd) → Run n s tokens (end_of false true k None) all t → Counted k all s t
+  unfolding alloca_step
+  after_count k zero s t tokens all r = let x = no_more false k all s t r.1 r.2 in (x.count, by_mark false k all s t x)
+  after_count k (suc n) s t tokens all r = subst (λ v. Counted k all v t) r.first.in_front.1 (by r.first.in_back)
+    where
+      by : (if_next (opens_alignment m.text (end_of false true k None)) (stated_alignment m.text (end_of false true k None)) (count_or_attachment m role (end_of false true k None))).means r.first.between r.first.back r.value r.between → Counted k all r.first.between t
+      by (inl q) = aligned_case false k n r.first.between r.between t r.first.back r.back r.value all q.1 r.others
+      by (inr (e, inl q)) = absurd (never (opens_count (end_of false true k None)) r.first.back (λ token. refl) q.0)
+      by (inr (e, inr q)) = marked_case false k n r.first.between r.between t r.first.back r.back r.value all q.1 r.others
+
+  abbrev Started : AllocaEnd → Locals → Locals → Type 0
+  Started all s t = EndBack alloca_start (count_shown all.count ++ tail all) all s t
+
+  uncounted : (all : AllocaEnd) (s t : Locals) → (all.count ≡ None) × EndBack alloca_start (tail all) all s t → Started all s t
+  uncounted all s t x = subst (λ k. EndBack alloca_start (count_shown k ++ tail all) all s t) (sym x.0) x.1
+
+  counted_case : (n : ℕ) (s u t : Locals) (tokens rest : List Token) (v all : AllocaEnd) → (stated_count m alloca_start).means s tokens v u → Run n u rest v all t → Started all s t
+  unfolding stated_count
+  counted_case n s u t tokens rest v all r others =
+      let is = r.in_back.1 in
+      let y = after_count (Some r.first) n u t rest all (subst (λ (e : AllocaEnd). Run n u rest e all t) is others) in
+      let z = y.1 in
+      record {
+        value = z.value;
+        count = z.count;
+        align = z.align;
+        inserted = z.inserted;
+        back = subst (λ k. Returns text last (After alloca_start) (count_shown k ++ tail all) z.value s t) (sym y.0)
+            (step_returns (comma_first text (sized (spelled_by m) (named_by last) r.first.0 r.first.1)) (count_step r.first (ending r.in_back.2 (sized_back m text bytes fit last r.front r.first r.in_front))) z.back);
+      }
+
+  from_start : (n : ℕ) (s t : Locals) (tokens : List Token) (all : AllocaEnd) → Run n s tokens alloca_start all t → Started all s t
+  unfolding alloca_step
+  from_start zero s t tokens all r = let x = no_more true None all s t r.1 r.2 in uncounted all s t (x.count, by_mark true None all s t x)
+  from_start (suc n) s t tokens all r = subst (λ v. Started all v t) r.first.in_front.1 (by r.first.in_back)
+    where
+      by : (if_next (opens_alignment m.text alloca_start) (stated_alignment m.text alloca_start) (count_or_attachment m role alloca_start)).means r.first.between r.first.back r.value r.between → Started all r.first.between t
+      by (inl q) = uncounted all r.first.between t (aligned_case true None n r.first.between r.between t r.first.back r.back r.value all q.1 r.others)
+      by (inr (e, inl q)) = counted_case n r.first.between r.between t r.first.back r.back r.value all q.1 r.others
+      by (inr (e, inr q)) = uncounted all r.first.between t (marked_case true None n r.first.between r.between t r.first.back r.back r.value all q.1 r.others)
+
+  -- ---- whole forms
+
+  stretched : (a b g i : List Piece) → a ++ (b ++ (g ++ i)) ≡ (a ++ (b ++ g)) ++ i
+  stretched a b g i = simp append_assoc
+
+  pub alloca_back : (s t : Locals) (tokens : List Token) (x : Op × Bool) → (alloca m role).means s tokens x t → FormBack m text last (alloca (over m text) role) (codes "alloca") x s t
+  unfolding alloca
+  alloca_back s t tokens x r =
+      let of : Ty = r.first in
+      let e = r.in_back in
+      let all : AllocaEnd = e.first in
+      let y = from_start e.in_front.0 r.between e.between e.front all e.in_front.1 in
+      let same : (op.Alloca of y.value.count y.value.align, y.value.inserted) ≡ (op.Alloca of all.count all.align, all.inserted) = λ i. (op.Alloca of (y.count i) (y.align i), y.inserted i) in
+      let shown : List Piece = type_at (spelled_by m) spaced of in
+      subst (λ x. FormBack m text last (alloca (over m text) role) (codes "alloca") x s t) (sym e.in_back.1) (record {
+        pieces = shown ++ (count_shown all.count ++ alignment_pieces all.align);
+        are = λ gap. refl;
+        back = ending e.in_back.2 (pieces_are (stretched shown (count_shown all.count) (alignment_pieces all.align) (inserted_pieces all.inserted))
+            (then_returns (type_back m text bytes fit last spaced r.front of r.in_front)
+              (subst (λ v. Returns text last _ (count_shown all.count ++ tail all) v r.between e.between) same (made_returns y.back))));
+      })
