@@ -37,7 +37,7 @@ use Rattle.no_reinstr.proofs.Ends.{MarkFits, no_mark, attachment_fits, mark_piec
 use Rattle.no_reinstr.proofs.Forms.{FormBack}
 use Rattle.no_reinstr.proofs.Lists.{comma_back, never}
 use Rattle.no_reinstr.proofs.Operands.{word_first, type_back, sized_back}
-use Rattle.no_reinstr.proofs.Returning.{Returns, ending, lifted, pieces_are, yes_returns, no_returns, then_returns, made_returns, step_returns, no_steps}
+use Rattle.no_reinstr.proofs.Returning.{Returns, ending, given, lifted, pieces_are, yes_returns, no_returns, then_returns, made_returns, step_returns, no_steps}
 
 -- ---- alignments
 
@@ -349,5 +349,5 @@ module _ (m : Meaning) (text : List ℕ) (bytes : AreBytes m.text) (fit : TypesF
         are = λ gap. refl;
         back = ending e.in_back.2 (pieces_are (stretched shown (count_shown all.count) (alignment_pieces all.align) (inserted_pieces all.inserted))
             (then_returns (type_back m text bytes fit last spaced r.front of r.in_front)
-              (subst (λ v. Returns text last _ (count_shown all.count ++ tail all) v r.between e.between) same (made_returns y.back))));
+              (given same (made_returns {g = λ (v : AllocaEnd). let p : Op × Bool = (op.Alloca of v.count v.align, v.inserted) in p} y.back))));
       })

@@ -137,6 +137,10 @@ module _ (m : Meaning) (text : List ℕ) (bytes : AreBytes m.text) (fit : TypesF
   unfolding an_argument
   argument_opens = then_opens (is_sign text (codes ")")) false (some_type (over m text)) _ (lift_opens (is_sign text (codes ")")) false (a_type (over m text) DEPTH) (type_opens (over m text) DEPTH (codes ")") refl))
 
+  -- what is written behind the type of a call
+  abbrev pub call_rest : Operand → List (Ty × Operand) → List Piece
+  call_rest callee arguments = shown ty.Ptr callee ++ (sign glued (codes "(") ++ (with_commas argument_shown glued arguments ++ sign glued (codes ")")))
+
   -- what stands behind the type of a call
   pub record CallBack (of : Ty) (register : Option ℕ) (i : Instr) (s t : Locals) : Type 0 where
     pub callee : Operand
@@ -144,7 +148,7 @@ module _ (m : Meaning) (text : List ℕ) (bytes : AreBytes m.text) (fit : TypesF
     pub inserted : Bool
     pub is : i ≡ record { result = register; inserted = inserted; op = op.Call of callee arguments }
     pub back : Returns text last (call_parts (over m text) role of register)
-        ((shown ty.Ptr callee ++ (sign glued (codes "(") ++ (with_commas argument_shown glued arguments ++ sign glued (codes ")")))) ++ inserted_pieces inserted)
+        (call_rest callee arguments ++ inserted_pieces inserted)
         (record { result = register; inserted = inserted; op = op.Call of callee arguments }) s t
 
   pub parts_back : (of : Ty) (register : Option ℕ) (s t : Locals) (tokens : List Token) (i : Instr) → (call_parts m role of register).means s tokens i t → CallBack of register i s t

@@ -10,3 +10,5 @@ pub mod Memory
 pub mod Flow
 pub mod Allocas
 pub mod Calls
+pub mod Heads
+pub mod Works

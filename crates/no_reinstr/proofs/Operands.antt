@@ -74,6 +74,10 @@ module _ (m : Meaning) (text : List ℕ) (bytes : AreBytes m.text) (fit : TypesF
   pub type_back : (gap : List ℕ) {s t : Locals} (tokens : List Token) (ty : Ty) → (some_type m).means s tokens ty t → Returns text last (some_type (over m text)) (type_at (spelled_by m) gap ty) ty s t
   type_back gap tokens ty r = lifted (a_type (over m text) DEPTH) r.1 (type_again m text bytes DEPTH gap tt tt tt tokens ty tt r.0).2
 
+  -- at any state
+  pub type_any : (gap : List ℕ) {s t v : Locals} (tokens : List Token) (ty : Ty) → (some_type m).means s tokens ty t → Returns text last (some_type (over m text)) (type_at (spelled_by m) gap ty) ty v v
+  type_any gap tokens ty r = lifted (a_type (over m text) DEPTH) refl (type_again m text bytes DEPTH gap tt tt tt tokens ty tt r.0).2
+
   pub type_fits : (s t : Locals) (tokens : List Token) (ty : Ty) → (some_type m).means s tokens ty t → TypeFits ty
   type_fits s t tokens ty r = read_fits m DEPTH tokens ty bytes r.0
 

@@ -47,6 +47,10 @@ module _ {A : Type 0} {text : List ℕ} {last : Locals} where
   pub ending : {q : Rule Locals A} {pieces : List Piece} {a : A} {s t u : Locals} → t ≡ u → Returns text last q pieces a s u → Returns text last q pieces a s t
   ending {q = q} {pieces = pieces} {a = a} {s = s} e x = subst (λ v. Returns text last q pieces a s v) (sym e) x
 
+  -- from a state that is another
+  pub starting : {q : Rule Locals A} {pieces : List Piece} {a : A} {s t u : Locals} → u ≡ s → Returns text last q pieces a u t → Returns text last q pieces a s t
+  starting {q = q} {pieces = pieces} {a = a} {t = t} e x = subst (λ v. Returns text last q pieces a v t) e x
+
   pub pieces_are : {q : Rule Locals A} {pieces others : List Piece} {a : A} {s t : Locals} → pieces ≡ others → Returns text last q pieces a s t → Returns text last q others a s t
   pieces_are {q = q} {a = a} {s = s} {t = t} e x = subst (λ l. Returns text last q l a s t) e x
 
@@ -58,6 +62,10 @@ module _ {A : Type 0} {text : List ℕ} {last : Locals} where
 
   pub lifted : (p : Rule (Unit {0}) A) {pieces : List Piece} {a : A} {s t : Locals} → t ≡ s → Spells text p tt pieces a tt → Returns text last (lift p) pieces a s t
   lifted p e x = ending e (lift_returns p x)
+
+  -- a value that is another
+  pub given : {q : Rule Locals A} {pieces : List Piece} {a b : A} {s t : Locals} → a ≡ b → Returns text last q pieces a s t → Returns text last q pieces b s t
+  given {q = q} {pieces = pieces} {s = s} {t = t} e x = subst (λ c. Returns text last q pieces c s t) e x
 
   -- pieces of a value that is another
   pub value_is : (q : Rule Locals A) (pieces : A → List Piece) {a b : A} {s t : Locals} → b ≡ a → Returns text last q (pieces a) a s t → Returns text last q (pieces b) b s t
