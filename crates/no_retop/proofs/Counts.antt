@@ -9,6 +9,7 @@ use Rattle.no_lex.specs.Spelling.{is_digits}
 use Rattle.no_locals.specs.Counting.{next, stripped, behind_name}
 use Rattle.no_print.specs.Names.{name_at}
 use Rattle.no_reread.specs.Spells.{AreBytes}
+use Rattle.no_retop.specs.Bodies.{AreNames, IsLonger}
 
 -- ---- bytes of a counter
 
@@ -48,10 +49,6 @@ behind_bytes counter name x y = by (is_digits name)
 
 -- ---- names that are bytes
 
-abbrev pub AreNames : List (List ℕ) → Type 0
-AreNames [] = Unit {0}
-AreNames (name ∷ names) = AreBytes name × AreNames names
-
 names_more : (names : List (List ℕ)) (name : List ℕ) → AreNames names → AreBytes name → AreNames (names ++ name ∷ [])
 names_more [] name x y = (y, tt)
 names_more (first ∷ names) name x y = (x.0, names_more names name x.1 y)
@@ -64,10 +61,6 @@ names_with names name x y = by (is_known names name)
     by false = names_more names name x y
 
 -- ---- places
-
--- a list of names that is longer
-abbrev pub IsLonger : List (List ℕ) → List (List ℕ) → Type 0
-IsLonger names longer = (more : List (List ℕ)) × (names ++ more ≡ longer)
 
 pub longer_same : (names : List (List ℕ)) → IsLonger names names
 longer_same names = ([], append-nil names)

@@ -32,10 +32,10 @@ use Rattle.no_print.specs.Pieces.{Piece, glued, spaced, lined, sign, with_commas
 use Rattle.no_reread.specs.Spells.{AreBytes, Spells, over}
 use Rattle.no_reread.proofs.Frame.{then_spells, made_spells}
 use Rattle.no_reread.proofs.Opening.{kept_state}
-use Rattle.no_retop.proofs.Counts.{IsLonger}
+use Rattle.no_retop.specs.Bodies.{Like, BodyGrows, BodyAgain}
 use Rattle.no_retop.proofs.Heads.{rest_of, again_head, HeadAgain, head_again}
 use Rattle.no_retop.proofs.Marks.{MayStand, bound_marks, address_marks}
-use Rattle.no_retop.proofs.Params.{Like, Within, declared_again, defined_again}
+use Rattle.no_retop.proofs.Params.{Within, declared_again, defined_again}
 use Rattle.no_retop.proofs.Steps.{Twice, sign_then}
 use Rattle.no_tops.specs.Tops.{inside, a_declaration}
 
@@ -75,15 +75,6 @@ pub record FunctionAgain (text : List ℕ) (p : Rule (Unit {0}) Written) (pieces
   pub again : Written
   pub is : (groups : List ℕ → Settings) → function_of text groups again ≡ f
   pub spells : Spells text p tt pieces again tt
-
--- what is asked of bodies: names are added behind those that there are, and what was read is spelled again
-abbrev pub BodyGrows : Meaning → Role → Type 0
-BodyGrows m role = (s t : Locals) (tokens : List Token) (bs : List Block) → (body m.text (an_instr m role)).means s tokens bs t → IsLonger s.registers t.registers
-
-abbrev pub BodyAgain : Meaning → List ℕ → Role → Spelled → Type 0
-BodyAgain m text role sp =
-    (s z t : Locals) (tokens : List Token) (bs : List Block) → Like s z → (body m.text (an_instr m role)).means s tokens bs t
-    → (u : Locals) × Like t u × Spells text (body text (an_instr (over m text) role)) z (blocks_pieces sp (record { registers = t.registers; labels = t.labels }) bs ++ sign lined (codes "}")) bs u
 
 like_none : Like no_locals no_locals
 like_none = record { registers = refl; labels = refl; register_names = tt; label_names = tt; counter = (omega arith, tt) }

@@ -22,9 +22,9 @@ use Rattle.no_print.specs.Modules.{kind_word, global_pieces}
 use Rattle.no_print.specs.Names.{global_name}
 use Rattle.no_print.specs.Pieces.{Piece, spaced, lined, word, sign}
 use Rattle.no_print.specs.Stand.{Stand}
-use Rattle.no_reread.specs.Spells.{Spells, over}
+use Rattle.no_reread.specs.Spells.{AreBytes, TypeFits, Spells, over}
+use Rattle.no_reread.proofs.ConstFirst.{read_fits}
 use Rattle.no_reread.proofs.Frame.{plain_spells, then_spells, made_spells}
-use Rattle.no_reread.specs.Spells.{AreBytes}
 use Rattle.no_reread.proofs.Standing.{Begins, begins}
 use Rattle.no_retop.proofs.Steps.{Twice, tested, sign_then, symbol_spells, symbol_bytes}
 use Rattle.no_retop.proofs.Tails.{tails_again}
@@ -61,7 +61,7 @@ module _ (text : List ℕ) where
 
 module _ (m : Meaning) (text : List ℕ) (s : Spelled) (bytes : AreBytes m.text)
     (typed : (gap : List ℕ) → Twice text (a_type m 64) (a_type (over m text) 64) (type_at s gap))
-    (consts : (t : Ty) (gap : List ℕ) → Twice text (a_const m 64 t) (a_const (over m text) 64 t) (λ c. const_pieces s c t gap)) where
+    (consts : (t : Ty) → TypeFits t → (gap : List ℕ) → Twice text (a_const m 64 t) (a_const (over m text) 64 t) (λ c. const_pieces s c t gap)) where
   global_spells : (name : List ℕ) (constant : Bool) (t : Ty) (init : Const) (align : Option ℕ) → AreBytes name
       → Spells text (a_type (over m text) 64) tt (type_at s spaced t) t tt → Spells text (a_const (over m text) 64 t) tt (const_pieces s init t spaced) init tt
       → Spells text (tails text) tt (alignment_pieces align) align tt
@@ -85,4 +85,4 @@ module _ (m : Meaning) (text : List ℕ) (s : Spelled) (bytes : AreBytes m.text)
       let a = i.in_back in
       subst (λ (g : GlobalVar). Spells text (a_global (over m text)) tt (global_pieces s g) g tt) (sym a.in_back.1)
         (global_spells m1.first c.first t.first i.first a.first (symbol_bytes m.text tt m1.between m1.front m1.first bytes m1.in_front)
-          (typed spaced t.front t.first t.in_front) (consts t.first spaced i.front i.first i.in_front) (tails_again m.text text a.front a.first a.in_front))
+          (typed spaced t.front t.first t.in_front) (consts t.first (read_fits m 64 t.front t.first bytes t.in_front) spaced i.front i.first i.in_front) (tails_again m.text text a.front a.first a.in_front))

@@ -30,13 +30,16 @@ use Rattle.no_print.specs.Modules.{layout_pieces, global_pieces, attributes, hea
 use Rattle.no_print.specs.Names.{global_name, spelling}
 use Rattle.no_print.specs.Pieces.{Piece, glued, spaced, lined, parted, word, sign, with_commas}
 use Rattle.no_print.specs.Stand.{Stand}
-use Rattle.no_reread.specs.Spells.{AreBytes, Spells, over, spelled_by}
+use Rattle.no_reread.specs.Spells.{AreBytes, TypeFits, TypesFit, Spells, over, spelled_by}
+use Rattle.no_reread.proofs.ConstsAgain.{const_again}
 use Rattle.no_reread.proofs.Frame.{done_spells, made_spells, lift_spells, yes_spells, no_spells}
 use Rattle.no_reread.proofs.Listing.{repeat_end, repeat_more}
 use Rattle.no_reread.proofs.Standing.{begins, begins_none}
+use Rattle.no_reread.proofs.TypesAgain.{type_again}
+use Rattle.no_retop.specs.Bodies.{BodyGrows, BodyAgain}
 use Rattle.no_retop.specs.Printed.{form_pieces}
 use Rattle.no_retop.proofs.Forms.{WasRead, FormsRead, settings_may, layout_bytes, forms_read}
-use Rattle.no_retop.proofs.Functions.{HasBlock, FunctionAgain, BodyGrows, BodyAgain, DefinedAgain, declaration_again, function_again}
+use Rattle.no_retop.proofs.Functions.{HasBlock, FunctionAgain, DefinedAgain, declaration_again, function_again}
 use Rattle.no_retop.proofs.Globals.{global_again}
 use Rattle.no_retop.proofs.Marks.{MayStand, AllSet}
 use Rattle.no_retop.proofs.Steps.{Twice}
@@ -109,7 +112,7 @@ module _ (m : Meaning) (text : List ℕ) (role : Role) where
 
   module _ (bytes : AreBytes m.text)
       (typed : (gap : List ℕ) → Twice text (a_type m 64) (a_type (over m text) 64) (type_at (spelled_by m) gap))
-      (consts : (t : Ty) (gap : List ℕ) → Twice text (a_const m 64 t) (a_const (over m text) 64 t) (λ c. const_pieces (spelled_by m) c t gap))
+      (consts : (t : Ty) → TypeFits t → (gap : List ℕ) → Twice text (a_const m 64 t) (a_const (over m text) 64 t) (λ c. const_pieces (spelled_by m) c t gap))
       (grows : BodyGrows m role) (again : BodyAgain m text role (spelled_by m)) where
     abbrev sp : Spelled
     sp = spelled_by m
@@ -237,3 +240,11 @@ module _ (m : Meaning) (text : List ℕ) (role : Role) where
       modules_again tokens others found k stand =
           subst (λ (f : Module). IsModuleOf (over m text) role types others f) (sym k.is)
             (forms_again k.forms (forms_read m role bytes false k.stated tokens k.forms k.meant) others (subst (λ (f : Module). Stand text others (form_pieces sp f)) k.is stand))
+
+pub law : (m : Meaning) (text : List ℕ) (role : Role) (types : List (List ℕ × Ty)) (tokens others : List Token) (found : Module) → AreBytes m.text → TypesFit m.types → BodyGrows m role → BodyAgain m text role (spelled_by m)
+    → IsModuleOf m role types tokens found → Stand text others (form_pieces (spelled_by m) found) → IsModuleOf (over m text) role types others found
+law m text role types tokens others found bytes fit grows again k stand =
+    modules_again m text role bytes
+      (λ gap used t r. (type_again m text bytes 64 gap tt tt tt used t tt r).2)
+      (λ t fits gap used c r. const_again m text bytes fit 64 t fits gap used c r)
+      grows again types tokens others found k stand

@@ -32,20 +32,13 @@ use Rattle.no_reread.proofs.Listing.{IsClose}
 use Rattle.no_reread.proofs.Names.{name_again}
 use Rattle.no_reread.proofs.Opening.{Opens, kept_state, then_opens, lift_opens}
 use Rattle.no_reread.proofs.Standing.{stand_none, begins, begins_none}
-use Rattle.no_retop.proofs.Counts.{AreNames, names_with, reverse_bytes, next_are, behind_bytes, IsLonger, longer_then, longer_named, named_there}
+use Rattle.no_retop.specs.Bodies.{AreNames, IsLonger, Like}
+use Rattle.no_retop.proofs.Counts.{names_with, reverse_bytes, next_are, behind_bytes, longer_then, longer_named, named_there}
 use Rattle.no_retop.proofs.Openings.{type_no_close}
 use Rattle.no_retop.proofs.Steps.{Twice, tested, given, given_is, sign_then}
 use Rattle.no_retop.proofs.Within.{items_before, items_within}
 
 -- ---- states
-
--- the same names of registers and labels; the counters may differ; what the first state has are bytes
-pub record Like (s z : Locals) : Type 0 where
-  pub registers : s.registers ≡ z.registers
-  pub labels : s.labels ≡ z.labels
-  pub register_names : AreNames s.registers
-  pub label_names : AreNames s.labels
-  pub counter : AreBytes s.counter
 
 -- the names of registers are the first of these
 abbrev pub Within : List (List ℕ) → Locals → Type 0
