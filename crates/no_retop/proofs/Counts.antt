@@ -1,9 +1,8 @@
 -- Names of registers: those that are given by number are bytes, and each stands at its place in every longer list.
-use Rattle.std.proofs.Common.{◌≡◌, ℕ, suc, zero, ◌+◌, ◌-◌, ◌<◌, Bool, true, false, not, cond, ◌||◌, ◌==◌, nat_lt, List, [], ◌∷◌, ◌++◌, reverse, length, take, drop, slice_get, unwrap_or, bytes_eq, if◌then◌else◌, refl, sym, ap, subst, ◌∙◌, append_assoc, append-nil, add-one, arith}
-use Rattle.std.specs.List.{list_any, position_or_len}
+use Rattle.std.proofs.Common.{◌≡◌, ℕ, suc, ◌+◌, ◌<◌, Bool, true, false, not, cond, ◌||◌, ◌==◌, nat_lt, List, [], ◌∷◌, ◌++◌, reverse, bytes_eq, if◌then◌else◌, refl, sym, ap, subst, ◌∙◌, append_assoc, append-nil, arith}
 use Rattle.std.specs.Cmp.Lexicographic.{same_text}
 use Rattle.std.proofs.lemmas.Bool.{ltb-true}
-use Rattle.std.proofs.lemmas.List.{reverse-cons}
+use Rattle.std.proofs.lemmas.List.{reverse-append}
 use Rattle.no_ir.specs.Naming.{is_known, place_of, with_name}
 use Rattle.no_lex.specs.Spelling.{is_digits}
 use Rattle.no_locals.specs.Counting.{next, stripped, behind_name}
@@ -27,7 +26,7 @@ append_bytes (d ∷ a) b x y = (x.0, append_bytes a b x.1 y)
 
 pub reverse_bytes : (ds : List ℕ) → AreBytes ds → AreBytes (reverse ds)
 reverse_bytes [] h = tt
-reverse_bytes (d ∷ ds) h = subst AreBytes (sym (reverse-cons d ds)) (append_bytes (reverse ds) (d ∷ []) (reverse_bytes ds h.1) (h.0, tt))
+reverse_bytes (d ∷ ds) h = subst AreBytes (sym (reverse-append (d ∷ []) ds)) (append_bytes (reverse ds) (d ∷ []) (reverse_bytes ds h.1) (h.0, tt))
 
 stripped_bytes : (ds : List ℕ) → AreBytes ds → AreBytes (stripped ds)
 stripped_bytes [] h = tt

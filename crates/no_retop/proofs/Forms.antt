@@ -1,14 +1,10 @@
 -- The forms at the top of a text that was read, and what is known of each.
-use Rattle.std.proofs.Common.{◌≡◌, ℕ, ◌≤◌, Bool, true, false, List, [], ◌∷◌, ◌++◌, bytes_eq, Option, Some, None, Result, Ok, Err, if◌then◌else◌, ◌⊎◌, inl, inr, refl, sym, ap, subst, ◌∙◌}
-use Rattle.no_ir.specs.declared.function.GlobalVar.{GlobalVar}
+use Rattle.std.proofs.Common.{◌≡◌, ℕ, Bool, true, false, List, [], ◌∷◌, ◌++◌, bytes_eq, Option, Some, None, if◌then◌else◌, ◌⊎◌, inl, inr, refl, sym, ap, subst, ◌∙◌}
 use Rattle.no_ir.specs.declared.function.Role.{Role}
 use Rattle.no_lex.specs.declared.token.Token.{Token}
 use Rattle.no_grammar.specs.Repeated.{IsRepeated}
-use Rattle.no_grammar.specs.Rules.{Rule}
 use Rattle.no_grammar.specs.Scope.{Meaning}
 use Rattle.no_grammar.specs.Spelled.{spelled}
-use Rattle.no_grammar.specs.Unescaped.{unescaped, inner}
-use Rattle.no_attrs.specs.Attributes.{attribute_marks}
 use Rattle.no_attrs.specs.declared.marks.Mark.{Mark}
 use Rattle.no_attrs.specs.declared.marks.Mark.TheVariants as mark
 use Rattle.no_globals.specs.Globals.{a_global}
@@ -21,17 +17,17 @@ use Rattle.no_modules.specs.declared.tops.Top.{Top}
 use Rattle.no_modules.specs.declared.tops.Top.TheVariants as top
 use Rattle.no_modules.specs.declared.tops.TopWord.{TopWord}
 use Rattle.no_modules.specs.declared.tops.TopWord.TheVariants as begins
-use Rattle.no_modules.specs.Functions.{head_body, written, a_function}
+use Rattle.no_modules.specs.Functions.{head_body, a_function}
 use Rattle.no_modules.specs.Grouping.{nothing_set, set_by, set_by_all, found_in, all_grouped, no_groups}
 use Rattle.no_modules.specs.Modules.{with_marks, layout_or}
 use Rattle.no_modules.specs.Tops.{source_top, layout_top, target_top, function_top, declared, declared_top, group_top, global_top, node_top, after_word, worded, a_top, more_tops}
-use Rattle.no_modules.specs.WrittenOut.{marks_named, one_written, written_out}
+use Rattle.no_modules.specs.WrittenOut.{marks_named, written_out}
 use Rattle.no_modules.proofs.WrittenLaws.{written_out_is}
 use Rattle.no_reread.specs.Spells.{AreBytes}
 use Rattle.no_reread.proofs.Bytes.{bytes_string, bytes_spelled}
 use Rattle.no_retop.proofs.Heads.{head_marks_may}
 use Rattle.no_retop.proofs.Marks.{MayStand, MaySet, AllSet, all_append, read_may}
-use Rattle.no_tops.specs.Tops.{layout_of, a_target, a_group, inside, a_declaration}
+use Rattle.no_tops.specs.Tops.{layout_of, a_target, a_group, a_declaration}
 
 some_is : {A : Type 0} (a b : A) → Some a ≡ Some b → a ≡ b
 some_is a b e = cc

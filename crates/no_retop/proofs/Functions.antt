@@ -1,14 +1,12 @@
 -- Functions, with blocks or declared, are read again.
-use Rattle.std.proofs.Common.{◌≡◌, ℕ, ◌<◌, Bool, true, false, List, [], ◌∷◌, ◌++◌, codes, Option, Some, None, inl, inr, refl, sym, ap, subst, ◌∙◌, append_assoc, append-nil, arith}
+use Rattle.std.proofs.Common.{◌≡◌, ℕ, Bool, true, false, List, [], ◌∷◌, ◌++◌, codes, Option, Some, None, refl, sym, ap, subst, ◌∙◌, arith}
 use Rattle.no_ir.specs.declared.function.Block.{Block}
 use Rattle.no_ir.specs.declared.function.Function.{Function}
 use Rattle.no_ir.specs.declared.function.Role.{Role}
 use Rattle.no_ir.specs.declared.instruction.Instr.{Instr}
-use Rattle.no_ir.specs.declared.types.Ty.{Ty}
 use Rattle.no_lex.specs.declared.token.Token.{Token}
 use Rattle.no_grammar.specs.Rules.{Rule, done, ◌>>=◌}
 use Rattle.no_grammar.specs.Scope.{Meaning}
-use Rattle.no_grammar.specs.Spelled.{a_sign}
 use Rattle.no_grammar.specs.Types.{a_type}
 use Rattle.no_attrs.specs.declared.marks.Mark.{Mark}
 use Rattle.no_blocks.specs.declared.blocks.Piece.TheVariants as piece
@@ -33,7 +31,7 @@ use Rattle.no_reread.specs.Spells.{AreBytes, Spells, over}
 use Rattle.no_reread.proofs.Frame.{then_spells, made_spells}
 use Rattle.no_reread.proofs.Opening.{kept_state}
 use Rattle.no_retop.specs.Bodies.{Like, BodyGrows, BodyAgain}
-use Rattle.no_retop.proofs.Heads.{rest_of, again_head, HeadAgain, head_again}
+use Rattle.no_retop.proofs.Heads.{rest_of, again_head, head_again}
 use Rattle.no_retop.proofs.Marks.{MayStand, bound_marks, address_marks}
 use Rattle.no_retop.proofs.Params.{Within, declared_again, defined_again}
 use Rattle.no_retop.proofs.Steps.{Twice, sign_then}
@@ -54,7 +52,7 @@ function_same st h marks bs t u r l = λ i. record { name = h.name; result = h.r
 
 -- ---- a body has blocks
 
-record HasBlock (bs : List Block) : Type 0 where
+pub record HasBlock (bs : List Block) : Type 0 where
   pub first : Block
   pub others : List Block
   pub is : bs ≡ first ∷ others

@@ -1,6 +1,5 @@
 -- A global variable is read again.
-use Rattle.std.proofs.Common.{◌≡◌, ℕ, Bool, true, false, ◌&&◌, ◌||◌, ◌==◌, List, [], ◌∷◌, ◌++◌, codes, bytes_eq, Option, Some, None, Result, Ok, Err, if◌then◌else◌, refl, sym, ap, subst, ◌∙◌}
-use Rattle.no_lex.specs.declared.token.Token.{Token}
+use Rattle.std.proofs.Common.{◌≡◌, ℕ, Bool, true, false, ◌&&◌, ◌||◌, ◌==◌, List, [], ◌++◌, codes, bytes_eq, Option, Result, Ok, Err, if◌then◌else◌, refl, sym, subst, ◌∙◌}
 use Rattle.no_lex.specs.declared.token.TokenKind.{TokenKind}
 use Rattle.no_lex.specs.declared.token.TokenKind.TheVariants as kind
 use Rattle.no_ir.specs.declared.constant.Const.{Const}
@@ -8,9 +7,9 @@ use Rattle.no_ir.specs.declared.function.GlobalVar.{GlobalVar}
 use Rattle.no_ir.specs.declared.types.Ty.{Ty}
 use Rattle.no_grammar.specs.declared.fault.Flaw.{Flaw}
 use Rattle.no_grammar.specs.declared.fault.Flaw.TheVariants.{Syntax}
-use Rattle.no_grammar.specs.Rules.{Rule, plain, done, ◌>>=◌}
+use Rattle.no_grammar.specs.Rules.{plain}
 use Rattle.no_grammar.specs.Scope.{Meaning}
-use Rattle.no_grammar.specs.Spelled.{spelled, kind_number, a_sign}
+use Rattle.no_grammar.specs.Spelled.{kind_number}
 use Rattle.no_grammar.specs.Types.{a_type}
 use Rattle.no_values.specs.Constants.{a_const}
 use Rattle.no_values.specs.Skipped.{behind}
@@ -20,12 +19,11 @@ use Rattle.no_print.specs.Constants.{Spelled, type_at, const_pieces}
 use Rattle.no_print.specs.Instructions.{alignment_pieces}
 use Rattle.no_print.specs.Modules.{kind_word, global_pieces}
 use Rattle.no_print.specs.Names.{global_name}
-use Rattle.no_print.specs.Pieces.{Piece, spaced, lined, word, sign}
-use Rattle.no_print.specs.Stand.{Stand}
+use Rattle.no_print.specs.Pieces.{Piece, spaced, lined, word}
 use Rattle.no_reread.specs.Spells.{AreBytes, TypeFits, Spells, over}
 use Rattle.no_reread.proofs.ConstFirst.{read_fits}
 use Rattle.no_reread.proofs.Frame.{plain_spells, then_spells, made_spells}
-use Rattle.no_reread.proofs.Standing.{Begins, begins}
+use Rattle.no_reread.proofs.Standing.{begins}
 use Rattle.no_retop.proofs.Steps.{Twice, tested, sign_then, symbol_spells, symbol_bytes}
 use Rattle.no_retop.proofs.Tails.{tails_again}
 

@@ -1,11 +1,11 @@
 -- What stands before the blocks of a function is read again.
-use Rattle.std.proofs.Common.{◌≡◌, ℕ, Bool, true, false, List, [], ◌∷◌, ◌++◌, codes, Option, Some, None, Result, Ok, Err, inl, inr, refl, sym, ap, subst, ◌∙◌, append_assoc}
+use Rattle.std.proofs.Common.{◌≡◌, ℕ, Bool, true, false, List, [], ◌++◌, codes, Option, inl, inr, refl, sym, ap, subst, ◌∙◌, append_assoc}
 use Rattle.no_ir.specs.declared.function.Role.{Role}
 use Rattle.no_ir.specs.declared.types.Ty.{Ty}
 use Rattle.no_ir.specs.declared.types.Ty.TheVariants as ty
 use Rattle.no_lex.specs.declared.token.Token.{Token}
 use Rattle.no_lex.specs.declared.token.TokenKind.TheVariants as kind
-use Rattle.no_grammar.specs.Rules.{Rule, plain, done, ◌>>=◌, lift, if_next}
+use Rattle.no_grammar.specs.Rules.{plain, done, ◌>>=◌, lift}
 use Rattle.no_grammar.specs.Scope.{Meaning}
 use Rattle.no_grammar.specs.Spelled.{is_word, only_where, a_word}
 use Rattle.no_grammar.specs.Types.{a_type}
@@ -18,7 +18,6 @@ use Rattle.no_print.specs.Constants.{Spelled, type_at}
 use Rattle.no_print.specs.Modules.{bound_pieces, address_pieces}
 use Rattle.no_print.specs.Names.{global_name}
 use Rattle.no_print.specs.Pieces.{Piece, glued, spaced, word, sign, with_commas}
-use Rattle.no_print.specs.Stand.{Stand}
 use Rattle.no_reread.specs.Spells.{AreBytes, Spells, over}
 use Rattle.no_reread.proofs.Frame.{then_spells, made_spells, lift_spells, yes_spells, no_spells}
 use Rattle.no_reread.proofs.Listing.{word_spells}

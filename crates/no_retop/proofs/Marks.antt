@@ -1,29 +1,28 @@
 -- What attributes set on a function is set again.
-use Rattle.std.proofs.Common.{◌≡◌, ℕ, ◌≤◌, ◌<◌, ◌^◌, Bool, true, false, ◌&&◌, ◌==◌, List, [], ◌∷◌, ◌++◌, codes, bytes_eq, decimal, Option, Some, None, Result, Ok, Err, if◌then◌else◌, inl, inr, refl, sym, ap, subst, ◌∙◌, append-nil, arith}
+use Rattle.std.proofs.Common.{◌≡◌, ℕ, ◌≤◌, Bool, true, false, ◌&&◌, ◌==◌, List, [], ◌∷◌, ◌++◌, codes, bytes_eq, decimal, Option, Some, None, Ok, Err, if◌then◌else◌, inl, inr, refl, sym, ap, subst, ◌∙◌, append-nil, arith}
 use Rattle.no_lex.specs.declared.token.Token.{Token}
 use Rattle.no_lex.specs.declared.token.TokenKind.{TokenKind}
 use Rattle.no_lex.specs.declared.token.TokenKind.TheVariants as kind
 use Rattle.no_ir.specs.declared.function.Role.{Role}
 use Rattle.no_ir.specs.declared.function.Role.TheVariants.{Source, Part}
 use Rattle.no_grammar.specs.declared.fault.Flaw.TheVariants.{Syntax}
-use Rattle.no_grammar.specs.Repeated.{IsRepeated, repeat}
-use Rattle.no_grammar.specs.Rules.{Rule, keeping, plain, done, ◌>>=◌}
-use Rattle.no_grammar.specs.Spelled.{spelled, kind_number, is_kind, is_sign, a_sign}
+use Rattle.no_grammar.specs.Rules.{keeping}
+use Rattle.no_grammar.specs.Spelled.{spelled, kind_number}
 use Rattle.no_grammar.specs.Unescaped.{unescaped, inner}
 use Rattle.no_attrs.specs.declared.attribute.Attribute.{Attribute}
 use Rattle.no_attrs.specs.declared.attribute.Attribute.TheVariants as attribute
 use Rattle.no_attrs.specs.declared.attribute.AttributeHead.TheVariants as head
 use Rattle.no_attrs.specs.declared.marks.Mark.{Mark}
 use Rattle.no_attrs.specs.declared.marks.Mark.TheVariants as mark
-use Rattle.no_attrs.specs.Attributes.{begins_by, begins_attribute, head_by, attribute_head, goes_on, string_of, value_tail, after_head, an_attribute, more_attribute, all_attributes, says, at_address, address_of, address_mark, text_mark, pair_mark, mark_of, listed, all_marks, attribute_marks}
+use Rattle.no_attrs.specs.Attributes.{begins_by, begins_attribute, head_by, attribute_head, value_tail, an_attribute, more_attribute, all_attributes, says, at_address, address_of, address_mark, pair_mark, mark_of, listed, all_marks, attribute_marks}
 use Rattle.no_print.specs.Modules.{bound_pieces, address_pieces}
-use Rattle.no_print.specs.Names.{string, quoted}
-use Rattle.no_print.specs.Pieces.{Piece, glued, spaced, sign}
+use Rattle.no_print.specs.Names.{quoted}
+use Rattle.no_print.specs.Pieces.{glued, spaced}
 use Rattle.no_print.specs.Stand.{IsPiece, Stand}
 use Rattle.no_reread.specs.Spells.{Spells}
 use Rattle.no_reread.proofs.Listing.{sign_spells}
 use Rattle.no_reread.proofs.Names.{string_again}
-use Rattle.no_reread.proofs.Standing.{InParts, stand_parts, stand_none}
+use Rattle.no_reread.proofs.Standing.{stand_none}
 use Rattle.no_retop.proofs.Amounts.{address_most, address_again, decimal_bytes}
 use Rattle.no_retop.proofs.Steps.{tested}
 

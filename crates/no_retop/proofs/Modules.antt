@@ -1,7 +1,6 @@
 -- Whole modules are read again.
-use Rattle.std.proofs.Common.{◌≡◌, ℕ, Bool, true, false, List, [], ◌∷◌, ◌++◌, codes, Option, Some, None, ◌⊎◌, inl, inr, refl, sym, ap, subst, ◌∙◌, append_assoc}
+use Rattle.std.proofs.Common.{◌≡◌, ℕ, Bool, true, false, List, [], ◌∷◌, ◌++◌, codes, Some, None, inl, inr, refl, sym, ap, subst, ◌∙◌, append_assoc}
 use Rattle.std.specs.List.{list_any}
-use Rattle.no_ir.specs.declared.function.Block.{Block}
 use Rattle.no_ir.specs.declared.function.Function.{Function}
 use Rattle.no_ir.specs.declared.function.GlobalVar.{GlobalVar}
 use Rattle.no_ir.specs.declared.function.Module.{Module}
@@ -9,8 +8,7 @@ use Rattle.no_ir.specs.declared.function.Role.{Role}
 use Rattle.no_ir.specs.declared.types.Ty.{Ty}
 use Rattle.no_lex.specs.declared.token.Token.{Token}
 use Rattle.no_lex.specs.declared.token.TokenKind.TheVariants as kind
-use Rattle.no_grammar.specs.Repeated.{repeat}
-use Rattle.no_grammar.specs.Rules.{Rule, done, ◌>>=◌, lift, if_next}
+use Rattle.no_grammar.specs.Rules.{done, ◌>>=◌, lift, if_next}
 use Rattle.no_grammar.specs.Scope.{Meaning}
 use Rattle.no_grammar.specs.Spelled.{is_kind}
 use Rattle.no_grammar.specs.Types.{a_type}
@@ -26,9 +24,10 @@ use Rattle.no_modules.specs.Grouping.{nothing_set, found_in, all_grouped, no_gro
 use Rattle.no_modules.specs.Modules.{set_function, with_marks, function_of, functions_in, globals_in, layout_or, module_of, IsModuleOf}
 use Rattle.no_modules.specs.Tops.{begins_top, function_top, declared, declared_top, global_top, node_top, worded, a_top, more_tops, tops}
 use Rattle.no_print.specs.Constants.{Spelled, type_at, const_pieces}
-use Rattle.no_print.specs.Modules.{layout_pieces, global_pieces, attributes, head_pieces, type_alone, param_pieces, blocks_pieces, locals_of, declared_pieces, defined_pieces, function_by, function_pieces, has_inserted, node_pieces, each}
+use Rattle.no_print.specs.Instructions.{alignment_pieces}
+use Rattle.no_print.specs.Modules.{layout_pieces, kind_word, global_pieces, attributes, type_alone, param_pieces, blocks_pieces, locals_of, declared_pieces, defined_pieces, function_by, function_pieces, has_inserted, node_pieces, each}
 use Rattle.no_print.specs.Names.{global_name, spelling}
-use Rattle.no_print.specs.Pieces.{Piece, glued, spaced, lined, parted, word, sign, with_commas}
+use Rattle.no_print.specs.Pieces.{Piece, glued, spaced, lined, parted, piece, word, sign, with_commas}
 use Rattle.no_print.specs.Stand.{Stand}
 use Rattle.no_reread.specs.Spells.{AreBytes, TypeFits, TypesFit, Spells, over, spelled_by}
 use Rattle.no_reread.proofs.ConstsAgain.{const_again}
@@ -39,7 +38,7 @@ use Rattle.no_reread.proofs.TypesAgain.{type_again}
 use Rattle.no_retop.specs.Bodies.{BodyGrows, BodyAgain}
 use Rattle.no_retop.specs.Printed.{form_pieces}
 use Rattle.no_retop.proofs.Forms.{WasRead, FormsRead, settings_may, layout_bytes, forms_read}
-use Rattle.no_retop.proofs.Functions.{HasBlock, FunctionAgain, DefinedAgain, declaration_again, function_again}
+use Rattle.no_retop.proofs.Functions.{FunctionAgain, declaration_again, function_again}
 use Rattle.no_retop.proofs.Globals.{global_again}
 use Rattle.no_retop.proofs.Marks.{MayStand, AllSet}
 use Rattle.no_retop.proofs.Steps.{Twice}
@@ -104,7 +103,7 @@ module _ (m : Meaning) (text : List ℕ) (role : Role) where
   node_again false = record { forms = []; spells = ended; globals = refl; functions = λ groups. refl; layout = λ stated. refl }
   node_again true = record {
     forms = top.Nothing ∷ [];
-    spells = more true true true (node_pieces true) [] top.Nothing [] (node_top_spells m text role true) (meta_tops text lined (codes "!0") _) ended;
+    spells = more true true true (node_pieces true) [] top.Nothing [] (node_top_spells m text role true) (meta_tops text lined (codes "!0") (sign spaced (codes "=") ++ (piece kind.Meta spaced (codes "!") ++ (sign glued (codes "{") ++ sign glued (codes "}"))))) ended;
     globals = refl;
     functions = λ groups. refl;
     layout = λ stated. refl;
@@ -154,8 +153,8 @@ module _ (m : Meaning) (text : List ℕ) (role : Role) where
         let f = set_function st w in
         subst (λ (l : List Piece). FormAgain l f) (defined_are sp f ∙ sym (ap (function_by sp f) x.some.is)) (defined_form _ f x.function)
     form_again w (inr r) st may =
-        subst (λ (w : Written). FormAgain (function_pieces sp (set_function st w)) (set_function st w)) r.2.1
-          (let f = set_function st (declared r.1) in subst (λ (l : List Piece). FormAgain l f) (declared_are sp f) (declared_form _ f (declaration_again m text sp role bytes typed r.0 r.1 r.2.0 st may)))
+        subst (λ (w : Written). FormAgain (function_pieces sp (set_function st w)) (set_function st w)) r.3
+          (let f = set_function st (declared r.1) in subst (λ (l : List Piece). FormAgain l f) (declared_are sp f) (declared_form _ f (declaration_again m text sp role bytes typed r.0 r.1 r.2 st may)))
 
     module _ (groups : List ℕ → Settings) where
       one_function : (w : Written) (back : List Piece) (fs : List Function) → FormAgain (function_pieces sp (function_of m.text groups w)) (function_of m.text groups w)
@@ -183,11 +182,14 @@ module _ (m : Meaning) (text : List ℕ) (role : Role) where
 
     -- ---- globals
 
+    abbrev behind_global : GlobalVar → List Piece
+    behind_global g = sign spaced (codes "=") ++ (word spaced (kind_word g.constant) ++ (type_at sp spaced g.ty ++ (const_pieces sp g.init g.ty spaced ++ alignment_pieces g.align)))
+
     global_spells : (g : GlobalVar) (s : Bool) → Spells text (a_global (over m text)) tt (global_pieces sp g) g tt → Spells text (a_top (over m text) role) s (global_pieces sp g) (top.Global g) s
     unfolding a_top global_top
     global_spells g s x =
-        yes_spells text (is_kind kind.Global) (lift (a_global (over m text)) >>= λ g. done (top.Global g)) _ s (global_pieces sp g) (top.Global g) s
-          (kind_begins text kind.Global kind.Global lined (64 ∷ spelling g.name) _ true refl)
+        yes_spells text (is_kind kind.Global) (lift (a_global (over m text)) >>= λ g. done (top.Global g)) (if_next (is_kind kind.Meta) (node_top (over m text)) (worded (over m text) role)) s (global_pieces sp g) (top.Global g) s
+          (kind_begins text kind.Global kind.Global lined (64 ∷ spelling g.name) (behind_global g) true refl)
           (made_spells text (lift (a_global (over m text))) (λ g. top.Global g) s s (global_pieces sp g) g (lift_spells text (a_global (over m text)) s (global_pieces sp g) g x))
 
     one_global : (g : GlobalVar) (tokens : List Token) → (a_global m).means tt tokens g tt → (back : List Piece) (gs : List GlobalVar) (fs : List Function)
@@ -197,7 +199,7 @@ module _ (m : Meaning) (text : List ℕ) (role : Role) where
           forms = top.Global g ∷ y.forms;
           spells = subst (λ (l : List Piece). Spells text (tops (over m text) role) true l (top.Global g ∷ y.forms) true) (sym (append_assoc (global_pieces sp g) (each (global_pieces sp) gs) back))
               (more true true true (global_pieces sp g) (each (global_pieces sp) gs ++ back) (top.Global g) y.forms (global_spells g true (global_again m text sp bytes typed consts tokens g k))
-                (global_tops text lined (64 ∷ spelling g.name) _) y.spells);
+                (global_tops text lined (64 ∷ spelling g.name) (behind_global g)) y.spells);
           globals = ap (λ (l : List GlobalVar). g ∷ l) y.globals;
           functions = y.functions;
           layout = y.layout;

@@ -1,20 +1,18 @@
 -- With which tokens types and what stands before them begin.
-use Rattle.std.proofs.Common.{◌≡◌, ℕ, suc, zero, Bool, true, false, ◌&&◌, ◌==◌, List, [], ◌∷◌, ◌++◌, codes, bytes_eq, Result, Ok, Err, if◌then◌else◌, refl, sym, ap, subst, ◌∙◌}
+use Rattle.std.proofs.Common.{◌≡◌, ℕ, suc, zero, Bool, true, false, ◌&&◌, ◌==◌, List, codes, bytes_eq, Result, Ok, Err, if◌then◌else◌, refl, sym, subst}
 use Rattle.std.proofs.lemmas.Slice.Eq.{bytes_eq-Decides}
 use Rattle.no_lex.specs.declared.token.Token.{Token}
 use Rattle.no_lex.specs.declared.token.TokenKind.{TokenKind}
 use Rattle.no_lex.specs.declared.token.TokenKind.TheVariants as kind
-use Rattle.no_ir.specs.declared.types.Ty.{Ty}
 use Rattle.no_grammar.specs.declared.fault.Flaw.{Flaw}
 use Rattle.no_grammar.specs.declared.fault.Flaw.TheVariants.{Syntax, LeftOut}
 use Rattle.no_grammar.specs.declared.types.TypeHead.{TypeHead}
 use Rattle.no_grammar.specs.declared.types.TypeHead.TheVariants as head
-use Rattle.no_grammar.specs.Rules.{Rule, plain, ◌>>=◌, checked}
+use Rattle.no_grammar.specs.Rules.{plain}
 use Rattle.no_grammar.specs.Scope.{Meaning}
-use Rattle.no_grammar.specs.Spelled.{spelled, kind_number, is_kind, is_word, is_sign}
+use Rattle.no_grammar.specs.Spelled.{spelled, kind_number, is_word, is_sign}
 use Rattle.no_grammar.specs.Types.{word_type, sign_type, head_by, type_head, leaf_of, after_type_head, a_type}
 use Rattle.no_attrs.specs.Attributes.{begins_by, begins_attribute}
-use Rattle.no_attrs.specs.Words.{is_attribute_word}
 use Rattle.no_reread.proofs.Opening.{Opens, plain_opens, then_opens, checked_opens}
 
 -- a type begins as its first token does

@@ -1,29 +1,26 @@
 -- Parameters are read again: in a definition each by its name, in a declaration without one.
-use Rattle.std.proofs.Common.{◌≡◌, ℕ, Bool, true, false, ◌==◌, List, [], ◌∷◌, ◌++◌, reverse, drop, codes, Option, Some, None, Result, Ok, Err, if◌then◌else◌, inl, inr, refl, sym, ap, subst, ◌∙◌, append-nil}
+use Rattle.std.proofs.Common.{◌≡◌, ℕ, Bool, true, false, ◌==◌, List, [], ◌∷◌, ◌++◌, reverse, drop, codes, Option, Some, None, Result, Ok, inl, inr, refl, sym, ap, subst, ◌∙◌, append-nil}
 use Rattle.no_ir.specs.Naming.{place_of, with_name}
 use Rattle.no_ir.specs.declared.types.Ty.{Ty}
 use Rattle.no_lex.specs.declared.token.Token.{Token}
 use Rattle.no_lex.specs.declared.token.TokenKind.{TokenKind}
 use Rattle.no_lex.specs.declared.token.TokenKind.TheVariants as kind
 use Rattle.no_grammar.specs.declared.fault.Flaw.{Flaw}
-use Rattle.no_grammar.specs.declared.fault.Flaw.TheVariants.{Syntax}
 use Rattle.no_grammar.specs.Lists.{items}
-use Rattle.no_grammar.specs.Rules.{Rule, plain, one, done, ◌>>=◌, lift, choose, if_next, maybe, next_is}
+use Rattle.no_grammar.specs.Rules.{done, ◌>>=◌, lift, maybe}
 use Rattle.no_grammar.specs.Scope.{Meaning}
-use Rattle.no_grammar.specs.Spelled.{spelled, kind_number, is_kind, is_sign, only_where, a_sign}
+use Rattle.no_grammar.specs.Spelled.{spelled, kind_number, is_kind, is_sign, only_where}
 use Rattle.no_grammar.specs.Types.{a_type}
 use Rattle.no_grammar.specs.Unescaped.{name_of}
-use Rattle.no_attrs.specs.Attributes.{all_attributes, skip_attributes}
+use Rattle.no_attrs.specs.Attributes.{skip_attributes}
 use Rattle.no_heads.specs.Heads.{any_name, or_no_name, own_name, place_name, param_name, a_param, params}
 use Rattle.no_locals.specs.declared.locals.Locals.{Locals}
-use Rattle.no_locals.specs.Counting.{behind_name}
 use Rattle.no_locals.specs.Numbered.{register_defined, register_unnamed, local_name, written_register, a_definition, no_name}
 use Rattle.no_print.specs.Constants.{Spelled, type_at}
 use Rattle.no_print.specs.Modules.{type_alone, param_pieces}
 use Rattle.no_print.specs.Names.{name_at, spelling}
 use Rattle.no_print.specs.Names as names
 use Rattle.no_print.specs.Pieces.{Piece, glued, spaced, sign, with_commas}
-use Rattle.no_print.specs.Stand.{IsPiece, Stand}
 use Rattle.no_reread.specs.Spells.{AreBytes, Spells, over}
 use Rattle.no_reread.proofs.Bytes.{bytes_name, bytes_spelled}
 use Rattle.no_reread.proofs.Found.{bytes_drop}
@@ -164,7 +161,6 @@ param_parts m named s t tokens a k =
     }
 
 skip_spells : (text : List ℕ) → Spells text (skip_attributes text) tt [] tt tt
-unfolding skip_attributes
 skip_spells text tokens stand = record { front = []; back = tokens; first = []; between = tt; parts = refl; in_front = inr (refl, (refl, refl, refl)); in_back = (stand_none text tokens stand, refl, refl) }
 
 param_spells : (m : Meaning) (named : Bool) (z u : Locals) (front own : List Piece) (r : ℕ) (t : Ty) → Spells m.text (a_type m 64) tt front t tt → Spells m.text (param_name m.text named) z own r u

@@ -1,5 +1,5 @@
 -- Rules that begin with one piece, and rules without a state that mean again.
-use Rattle.std.proofs.Common.{◌≡◌, ℕ, Bool, true, false, List, [], ◌∷◌, ◌++◌, drop, codes, bytes_eq, Result, Ok, Err, if◌then◌else◌, ◌==◌, refl, sym, ap, subst, ◌∙◌}
+use Rattle.std.proofs.Common.{◌≡◌, ℕ, Bool, true, false, List, ◌∷◌, ◌++◌, drop, bytes_eq, Result, Ok, Err, if◌then◌else◌, ◌==◌, refl, ap, subst, ◌∙◌}
 use Rattle.no_lex.specs.declared.token.Token.{Token}
 use Rattle.no_lex.specs.declared.token.TokenKind.{TokenKind}
 use Rattle.no_lex.specs.declared.token.TokenKind.TheVariants as kind
@@ -10,9 +10,9 @@ use Rattle.no_grammar.specs.Spelled.{spelled, kind_number, is_kind, a_word, a_si
 use Rattle.no_grammar.specs.Unescaped.{name_of}
 use Rattle.no_globals.specs.Globals.{symbol_name}
 use Rattle.no_print.specs.Names.{spelling, global_name}
-use Rattle.no_print.specs.Pieces.{Piece, piece, word, sign}
-use Rattle.no_print.specs.Stand.{IsPiece, Stand}
-use Rattle.no_reread.specs.Spells.{Spells, Again}
+use Rattle.no_print.specs.Pieces.{Piece, word, sign}
+use Rattle.no_print.specs.Stand.{IsPiece}
+use Rattle.no_reread.specs.Spells.{Spells}
 use Rattle.no_reread.proofs.Bytes.{bytes_name, bytes_spelled}
 use Rattle.no_reread.proofs.Found.{bytes_drop}
 use Rattle.no_reread.proofs.Frame.{plain_spells, then_spells}

@@ -1,5 +1,5 @@
 -- The alignment of a global is read again.
-use Rattle.std.proofs.Common.{◌≡◌, ℕ, ◌≤◌, ◌<◌, ◌^◌, Bool, true, false, not, ◌&&◌, ◌==◌, nat_lt, length, List, [], ◌∷◌, ◌++◌, codes, bytes_eq, decimal, Option, Some, None, Result, Ok, Err, if◌then◌else◌, ◌⊎◌, inl, inr, refl, sym, ap, subst, ◌∙◌, arith}
+use Rattle.std.proofs.Common.{◌≡◌, ℕ, ◌≤◌, Bool, true, false, not, ◌&&◌, ◌==◌, nat_lt, length, List, [], ◌∷◌, ◌++◌, codes, bytes_eq, decimal, Option, Some, None, Result, Ok, Err, if◌then◌else◌, inl, inr, refl, sym, ap, subst, ◌∙◌, arith}
 use Rattle.no_lex.specs.declared.token.Token.{Token}
 use Rattle.no_lex.specs.declared.token.TokenKind.{TokenKind}
 use Rattle.no_lex.specs.declared.token.TokenKind.TheVariants as kind
@@ -7,16 +7,15 @@ use Rattle.no_grammar.specs.declared.fault.Flaw.{Flaw}
 use Rattle.no_grammar.specs.declared.fault.Flaw.TheVariants.{Syntax, Number}
 use Rattle.no_grammar.specs.Numbers as numbers
 use Rattle.no_grammar.specs.Repeated.{IsRepeated, repeat}
-use Rattle.no_grammar.specs.Rules.{Rule, plain, done, ◌>>=◌, if_next}
-use Rattle.no_grammar.specs.Spelled.{spelled, kind_number, is_kind, a_sign}
-use Rattle.no_attrs.specs.Attributes.{is_alignment, aligned, alignment_of, string_of}
-use Rattle.no_attrs.specs.Ending.{more_where}
+use Rattle.no_grammar.specs.Rules.{plain, done, ◌>>=◌}
+use Rattle.no_grammar.specs.Spelled.{spelled, kind_number, is_kind}
+use Rattle.no_attrs.specs.Attributes.{is_alignment, aligned, alignment_of}
 use Rattle.no_attrs.specs.Words.{is_node}
 use Rattle.no_globals.specs.declared.globals.TailHead.{TailHead}
 use Rattle.no_globals.specs.declared.globals.TailHead.TheVariants.{Align, Section, Attachment}
-use Rattle.no_globals.specs.Globals.{tail_head, after_tail_head, a_tail, is_comma, more_tail, latest, last_of, tails}
+use Rattle.no_globals.specs.Globals.{tail_head, after_tail_head, a_tail, is_comma, more_tail, last_of, tails}
 use Rattle.no_print.specs.Instructions.{alignment_pieces}
-use Rattle.no_print.specs.Pieces.{Piece, glued, spaced, word, integer, comma}
+use Rattle.no_print.specs.Pieces.{glued, spaced, word, integer}
 use Rattle.no_reread.specs.Spells.{Spells}
 use Rattle.no_reread.proofs.Frame.{plain_spells, done_spells, then_spells, made_spells, yes_spells, no_spells}
 use Rattle.no_reread.proofs.Listing.{sign_begins, repeat_end, repeat_more}
@@ -24,7 +23,7 @@ use Rattle.no_reread.proofs.Numbers.{decimal_again}
 use Rattle.no_reread.proofs.Opening.{kept_value}
 use Rattle.no_reread.proofs.Standing.{begins_none}
 use Rattle.no_retop.proofs.Amounts.{decimal_most}
-use Rattle.no_retop.proofs.Steps.{Twice, given, given_is, given_holds, sign_then}
+use Rattle.no_retop.proofs.Steps.{Twice, sign_then}
 
 some_is : {A : Type 0} (a b : A) → Some a ≡ Some b → a ≡ b
 some_is a b e = cc

@@ -1,28 +1,25 @@
 -- One form at the top of a text is read again.
-use Rattle.std.proofs.Common.{◌≡◌, ℕ, Bool, true, false, not, ◌&&◌, ◌||◌, ◌==◌, nat_lt, length, List, [], ◌∷◌, ◌++◌, codes, bytes_eq, Option, Some, None, Result, Ok, Err, if◌then◌else◌, inl, inr, refl, sym, ap, subst, ◌∙◌, append_assoc}
+use Rattle.std.proofs.Common.{◌≡◌, ℕ, Bool, true, false, not, ◌&&◌, ◌||◌, ◌==◌, nat_lt, length, List, [], ◌∷◌, ◌++◌, codes, bytes_eq, Option, Some, None, Result, Ok, Err, if◌then◌else◌, refl, sym, ap, ◌∙◌}
 use Rattle.no_ir.specs.declared.function.Role.{Role}
-use Rattle.no_lex.specs.declared.token.Token.{Token}
 use Rattle.no_lex.specs.declared.token.TokenKind.{TokenKind}
 use Rattle.no_lex.specs.declared.token.TokenKind.TheVariants as kind
 use Rattle.no_grammar.specs.declared.fault.Flaw.{Flaw}
 use Rattle.no_grammar.specs.declared.fault.Flaw.TheVariants.{Syntax}
-use Rattle.no_grammar.specs.Rules.{Rule, keeping, plain, done, ◌>>=◌, lift, if_next, maybe}
+use Rattle.no_grammar.specs.Rules.{keeping, plain, done, ◌>>=◌, lift, if_next, maybe}
 use Rattle.no_grammar.specs.Scope.{Meaning}
-use Rattle.no_grammar.specs.Spelled.{spelled, kind_number, is_kind, is_sign, a_word, a_sign}
+use Rattle.no_grammar.specs.Spelled.{kind_number, is_kind, is_sign, a_word}
 use Rattle.no_grammar.specs.Unescaped.{unescaped, inner}
-use Rattle.no_attrs.specs.Attributes.{string_of}
-use Rattle.no_attrs.specs.Brackets.{is_last, closes, to_close, bracketed}
+use Rattle.no_attrs.specs.Brackets.{closes, to_close, bracketed}
 use Rattle.no_attrs.specs.Words.{is_node}
 use Rattle.no_globals.specs.Globals.{metadata_of}
 use Rattle.no_modules.specs.declared.tops.Top.{Top}
 use Rattle.no_modules.specs.declared.tops.Top.TheVariants as top
 use Rattle.no_modules.specs.declared.tops.TopWord.{TopWord}
 use Rattle.no_modules.specs.declared.tops.TopWord.TheVariants as begins
-use Rattle.no_modules.specs.Tops.{word_of, word_at, or_syntax, top_word, is_top_word, begins_top, layout_top, target_top, global_top, node_top, after_word, worded, a_top}
+use Rattle.no_modules.specs.Tops.{word_of, or_syntax, top_word, is_top_word, begins_top, layout_top, target_top, global_top, node_top, after_word, worded, a_top}
 use Rattle.no_print.specs.Modules.{layout_pieces, node_pieces}
-use Rattle.no_print.specs.Names.{string, quoted}
+use Rattle.no_print.specs.Names.{string}
 use Rattle.no_print.specs.Pieces.{Piece, glued, spaced, lined, piece, word, sign}
-use Rattle.no_print.specs.Stand.{IsPiece, Stand}
 use Rattle.no_reread.specs.Spells.{AreBytes, Spells, over}
 use Rattle.no_reread.proofs.Frame.{plain_spells, done_spells, then_spells, made_spells, lift_spells, yes_spells, no_spells}
 use Rattle.no_reread.proofs.Listing.{sign_spells}
@@ -30,7 +27,7 @@ use Rattle.no_reread.proofs.Names.{string_again}
 use Rattle.no_reread.proofs.Standing.{Heads, Tests, begins_none, stand_one}
 use Rattle.no_reread.proofs.Standing as standing
 use Rattle.no_retop.proofs.Steps.{tested, sign_then}
-use Rattle.no_tops.specs.Tops.{target_of, layout_of, a_target, is_bare, bare_of, is_distinct, a_node}
+use Rattle.no_tops.specs.Tops.{layout_of, a_target, bare_of, is_distinct, a_node}
 
 module _ (text : List ℕ) where
   -- ---- the layout
@@ -127,7 +124,7 @@ module _ (text : List ℕ) where
   pub meta_tops : (gap bytes : List ℕ) (back : List Piece) → Tops (piece kind.Meta gap bytes ++ back)
   meta_tops gap bytes back token h = tested text top_by token (record { gap = gap; kind = kind.Meta; bytes = bytes }) h
 
-  kind_begins : (k j : TokenKind) (gap bytes : List ℕ) (back : List Piece) (answer : Bool) → (kind_number k == kind_number j) ≡ answer → standing.Begins text (is_kind j) answer (piece k gap bytes ++ back)
+  pub kind_begins : (k j : TokenKind) (gap bytes : List ℕ) (back : List Piece) (answer : Bool) → (kind_number k == kind_number j) ≡ answer → standing.Begins text (is_kind j) answer (piece k gap bytes ++ back)
   kind_begins k j gap bytes back answer e =
       standing.begins text (is_kind j) answer (piece k gap bytes ++ back) (λ token h. tested text (λ i bs. kind_number i == kind_number j) token (record { gap = gap; kind = k; bytes = bytes }) h ∙ e)
 
@@ -139,8 +136,8 @@ module _ (m : Meaning) (text : List ℕ) (role : Role) where
       → Spells text (a_top (over m text) role) s (word gap w ++ back) x t
   unfolding a_top worded
   worded_spells gap w which back x s t e h =
-      no_spells text (is_kind kind.Global) (global_top (over m text)) _ s (word gap w ++ back) x t (kind_begins text kind.Word kind.Global gap w back false refl)
-        (no_spells text (is_kind kind.Meta) (node_top (over m text)) _ s (word gap w ++ back) x t (kind_begins text kind.Word kind.Meta gap w back false refl)
+      no_spells text (is_kind kind.Global) (global_top (over m text)) (if_next (is_kind kind.Meta) (node_top (over m text)) (worded (over m text) role)) s (word gap w ++ back) x t (kind_begins text kind.Word kind.Global gap w back false refl)
+        (no_spells text (is_kind kind.Meta) (node_top (over m text)) (worded (over m text) role) s (word gap w ++ back) x t (kind_begins text kind.Word kind.Meta gap w back false refl)
           (then_spells text (plain (top_word text)) (after_word (over m text) role) s s t (word gap w) back which x
             (plain_spells text (λ k bytes. or_syntax (word_by text k bytes)) s (record { gap = gap; kind = kind.Word; bytes = w }) which (ap or_syntax e)) h))
 
@@ -156,7 +153,7 @@ module _ (m : Meaning) (text : List ℕ) (role : Role) where
   pub node_top_spells : (s : Bool) → Spells text (a_top (over m text) role) s (node_pieces true) top.Nothing s
   unfolding a_top node_top
   node_top_spells s =
-      no_spells text (is_kind kind.Global) (global_top (over m text)) _ s (node_pieces true) top.Nothing s (kind_begins text kind.Meta kind.Global lined (codes "!0") (sign spaced (codes "=") ++ (piece kind.Meta spaced (codes "!") ++ (sign glued (codes "{") ++ sign glued (codes "}")))) false refl)
-        (yes_spells text (is_kind kind.Meta) (lift (a_node text) >>= λ _. done top.Nothing) _ s (node_pieces true) top.Nothing s
+      no_spells text (is_kind kind.Global) (global_top (over m text)) (if_next (is_kind kind.Meta) (node_top (over m text)) (worded (over m text) role)) s (node_pieces true) top.Nothing s (kind_begins text kind.Meta kind.Global lined (codes "!0") (sign spaced (codes "=") ++ (piece kind.Meta spaced (codes "!") ++ (sign glued (codes "{") ++ sign glued (codes "}")))) false refl)
+        (yes_spells text (is_kind kind.Meta) (lift (a_node text) >>= λ _. done top.Nothing) (worded (over m text) role) s (node_pieces true) top.Nothing s
           (kind_begins text kind.Meta kind.Meta lined (codes "!0") (sign spaced (codes "=") ++ (piece kind.Meta spaced (codes "!") ++ (sign glued (codes "{") ++ sign glued (codes "}")))) true refl)
           (made_spells text (lift (a_node text)) (λ _. top.Nothing) s s (node_pieces true) tt (lift_spells text (a_node text) s (node_pieces true) tt (node_spells text))))

@@ -1,13 +1,13 @@
 -- Items that were read are spelled again, where what holds behind the last of them holds before.
-use Rattle.std.proofs.Common.{◌≡◌, ℕ, Bool, true, false, List, [], ◌∷◌, ◌++◌, Option, Some, None, refl, sym, ap, subst, ◌∙◌}
+use Rattle.std.proofs.Common.{ℕ, false, List, [], ◌∷◌, ◌++◌, refl, sym, subst}
 use Rattle.no_lex.specs.declared.token.Token.{Token}
 use Rattle.no_grammar.specs.Rules.{Rule}
-use Rattle.no_grammar.specs.Repeated.{IsRepeated, repeat}
+use Rattle.no_grammar.specs.Repeated.{IsRepeated}
 use Rattle.no_grammar.specs.Spelled.{is_sign}
 use Rattle.no_grammar.specs.Lists.{more_item, items}
 use Rattle.no_print.specs.Pieces.{Piece, sign, spaced, with_commas}
 use Rattle.no_reread.specs.Spells.{Spells}
-use Rattle.no_reread.proofs.Items.{ended_keeps, more_reads, SomeItems, ItemsAre, items_are}
+use Rattle.no_reread.proofs.Items.{ended_keeps, more_reads, ItemsAre, items_are}
 use Rattle.no_reread.proofs.Listing.{EachSpells, IsClose, items_spell, no_items_spell}
 use Rattle.no_reread.proofs.Opening.{Opens}
 
