@@ -91,7 +91,7 @@ module _ (m : Meaning) (role : Role) where
       → MayStand role (with_marks text (found_in (all_grouped text no_groups forms)) nothing_set marks).address
   settings_may text forms marks r x =
       subst (λ (s : Settings). MayStand role s.address) (sym (written_out_is text forms marks))
-        (all_may role nothing_set (written_out text forms marks) tt (written_may text forms marks r x))
+      (all_may role nothing_set (written_out text forms marks) tt (written_may text forms marks r x))
 
   -- ---- the layout
 

@@ -111,10 +111,12 @@ module _ (m : Meaning) (text : List ℕ) (sp : Spelled) (role : Role) (bytes : A
         → Spells text (a_function (over m text) role) tt (front ++ (sign spaced (codes "{") ++ back)) (record { head = head; blocks = bs; names = v }) tt
     unfolding a_function head_body
     function_spells head bs u v front back x y =
-        made_spells text (inside no_locals (head_body (over m text) role)) written tt tt (front ++ (sign spaced (codes "{") ++ back)) ((head, bs), v) (λ others stand.
-          (then_spells text (a_head (over m text) role true) _ no_locals u v front (sign spaced (codes "{") ++ back) head (head, bs) x
-            (sign_then text spaced (codes "{") _ u v back (head, bs) refl
-              (made_spells text (body text (an_instr (over m text) role)) (λ blocks. (head, blocks)) u v back bs y)) others stand, refl))
+        made_spells text (inside no_locals (head_body (over m text) role)) written tt tt (front ++ (sign spaced (codes "{") ++ back)) ((head, bs), v) (λ others stand. (
+          then_spells text (a_head (over m text) role true) _ no_locals u v front (sign spaced (codes "{") ++ back) head (head, bs) x
+              (sign_then text spaced (codes "{") _ u v back (head, bs) refl
+              (made_spells text (body text (an_instr (over m text) role)) (λ blocks. (head, blocks)) u v back bs y)) others stand,
+          refl,
+        ))
 
     built : (h : Head) (s t : Locals) (front back : List Token) (bs : List Block) → (a_head m role true).means no_locals front h s → (body m.text (an_instr m role)).means s back bs t → (st : Settings) → MayStand role st.address
         → FunctionAgain text (a_function (over m text) role) (named_rest (set_function st (record { head = h; blocks = bs; names = t }))) (set_function st (record { head = h; blocks = bs; names = t }))

@@ -68,11 +68,11 @@ module _ (m : Meaning) (text : List ℕ) (s : Spelled) (bytes : AreBytes m.text)
   global_spells name constant t init align h x y z =
       let g : GlobalVar = record { name = name; constant = constant; ty = t; init = init; align = align } in
       then_spells text (plain (symbol_name text)) _ tt tt tt (global_name lined name) _ name g (symbol_spells text lined name tt h)
-        (sign_then text spaced (codes "=") _ tt tt _ g refl
-          (then_spells text (behind (is_idle text) (plain (constant_of text))) _ tt tt tt (word spaced (kind_word constant)) _ constant g (kind_spells text constant)
-            (then_spells text (a_type (over m text) 64) _ tt tt tt (type_at s spaced t) (const_pieces s init t spaced ++ alignment_pieces align) t g x
-              (then_spells text (a_const (over m text) 64 t) _ tt tt tt (const_pieces s init t spaced) (alignment_pieces align) init g y
-                (made_spells text (tails text) (λ align. record { name = name; constant = constant; ty = t; init = init; align = align }) tt tt (alignment_pieces align) align z)))))
+      (sign_then text spaced (codes "=") _ tt tt _ g refl
+      (then_spells text (behind (is_idle text) (plain (constant_of text))) _ tt tt tt (word spaced (kind_word constant)) _ constant g (kind_spells text constant)
+      (then_spells text (a_type (over m text) 64) _ tt tt tt (type_at s spaced t) (const_pieces s init t spaced ++ alignment_pieces align) t g x
+      (then_spells text (a_const (over m text) 64 t) _ tt tt tt (const_pieces s init t spaced) (alignment_pieces align) init g y
+      (made_spells text (tails text) (λ align. record { name = name; constant = constant; ty = t; init = init; align = align }) tt tt (alignment_pieces align) align z)))))
 
   pub global_again : Twice text (a_global m) (a_global (over m text)) (global_pieces s)
   unfolding a_global
@@ -82,5 +82,5 @@ module _ (m : Meaning) (text : List ℕ) (s : Spelled) (bytes : AreBytes m.text)
       let i = t.in_back in
       let a = i.in_back in
       subst (λ (g : GlobalVar). Spells text (a_global (over m text)) tt (global_pieces s g) g tt) (sym a.in_back.1)
-        (global_spells m1.first c.first t.first i.first a.first (symbol_bytes m.text tt m1.between m1.front m1.first bytes m1.in_front)
-          (typed spaced t.front t.first t.in_front) (consts t.first (read_fits m 64 t.front t.first bytes t.in_front) spaced i.front i.first i.in_front) (tails_again m.text text a.front a.first a.in_front))
+      (global_spells m1.first c.first t.first i.first a.first (symbol_bytes m.text tt m1.between m1.front m1.first bytes m1.in_front)
+      (typed spaced t.front t.first t.in_front) (consts t.first (read_fits m 64 t.front t.first bytes t.in_front) spaced i.front i.first i.in_front) (tails_again m.text text a.front a.first a.in_front))

@@ -49,24 +49,24 @@ module _ (m : Meaning) (text : List ℕ) (sp : Spelled) (role : Role) (bytes : A
   unfolding result_type
   void_spells gap =
       yes_spells text (is_word text (codes "void")) (a_word text (codes "void") >>= λ _. done ty.Void) (a_type (over m text) 64) tt (word gap (codes "void")) ty.Void tt
-        (begins text (is_word text (codes "void")) true (word gap (codes "void")) (λ token h. word_tested text (codes "void") (record { gap = gap; kind = kind.Word; bytes = codes "void" }) token h))
-        (made_spells text (a_word text (codes "void")) (λ _. ty.Void) tt tt (word gap (codes "void")) tt (word_spells text gap tt (codes "void") refl))
+      (begins text (is_word text (codes "void")) true (word gap (codes "void")) (λ token h. word_tested text (codes "void") (record { gap = gap; kind = kind.Word; bytes = codes "void" }) token h))
+      (made_spells text (a_word text (codes "void")) (λ _. ty.Void) tt tt (word gap (codes "void")) tt (word_spells text gap tt (codes "void") refl))
 
   result_again : (gap : List ℕ) → Twice text (result_type m) (result_type (over m text)) (type_at sp gap)
   unfolding result_type
   result_again gap tokens t (inl k) =
       subst (λ (t : Ty). Spells text (result_type (over m text)) tt (type_at sp gap t) t tt) (sym k.1.in_back.1)
-        (subst (λ (l : List Piece). Spells text (result_type (over m text)) tt l ty.Void tt) (sym (void_pieces sp.named gap)) (void_spells gap))
+      (subst (λ (l : List Piece). Spells text (result_type (over m text)) tt l ty.Void tt) (sym (void_pieces sp.named gap)) (void_spells gap))
   result_again gap tokens t (inr k) =
       let x = typed gap tokens t k.1 in
       no_spells text (is_word text (codes "void")) (a_word text (codes "void") >>= λ _. done ty.Void) (a_type (over m text) 64) tt (type_at sp gap t) t tt
-        (begins_alone text (is_word text (codes "void")) false (a_type (over m text) 64) (type_no_void (over m text) 64) tt tt t (type_at sp gap t) x) x
+      (begins_alone text (is_word text (codes "void")) false (a_type (over m text) 64) (type_no_void (over m text) 64) tt tt t (type_at sp gap t) x) x
 
   result_opens : Opens (begins_attribute text) false (result_type (over m text))
   unfolding result_type
   result_opens = if_next_opens (begins_attribute text) false (is_word text (codes "void")) (a_word text (codes "void") >>= λ _. done ty.Void) (a_type (over m text) 64)
       (then_opens (begins_attribute text) false (a_word text (codes "void")) (λ _. done ty.Void)
-        (plain_opens (begins_attribute text) false (λ token. only_where (is_word text (codes "void") token)) (λ token a e. void_no_attribute text token (given_holds (is_word text (codes "void") token) tt a e))))
+      (plain_opens (begins_attribute text) false (λ token. only_where (is_word text (codes "void") token)) (λ token a e. void_no_attribute text token (given_holds (is_word text (codes "void") token) tt a e))))
       (type_no_attribute (over m text) 64)
 
   words_again : (gap : List ℕ) → Twice text (words_type m) (words_type (over m text)) (type_at sp gap)
@@ -94,13 +94,13 @@ module _ (m : Meaning) (text : List ℕ) (sp : Spelled) (role : Role) (bytes : A
   head_spells named f h b o z u may name x y =
       let marks : List Piece = bound_pieces b ++ address_pieces o in
       then_spells text (lift (words_type (over m text))) _ z z u (type_at sp spaced h.result) _ h.result (again_head h b o) (lift_spells text (words_type (over m text)) z (type_at sp spaced h.result) h.result x)
-        (then_spells text (lift (plain (symbol_name text))) _ z z u (global_name spaced h.name) _ h.name (again_head h b o)
-          (lift_spells text (plain (symbol_name text)) z (global_name spaced h.name) h.name (symbol_spells text spaced h.name tt name))
-          (subst (λ (l : List Piece). Spells text (params (over m text) named >>= λ all. lift (attribute_marks text role) >>= λ marks. done (record { name = h.name; result = h.result; params = all; marks = marks })) z l (again_head h b o) u)
-            (ap (λ (l : List Piece). sign glued (codes "(") ++ l) (append_assoc (with_commas f glued h.params) (sign glued (codes ")")) marks))
-            (then_spells text (params (over m text) named) _ z u u (sign glued (codes "(") ++ (with_commas f glued h.params ++ sign glued (codes ")"))) marks h.params (again_head h b o) y
-              (made_spells text (lift (attribute_marks text role)) (λ marks. record { name = h.name; result = h.result; params = h.params; marks = marks }) u u marks (bound_marks b ++ address_marks o)
-                (lift_spells text (attribute_marks text role) u marks (bound_marks b ++ address_marks o) (marks_spell text role b o may))))))
+      (then_spells text (lift (plain (symbol_name text))) _ z z u (global_name spaced h.name) _ h.name (again_head h b o)
+      (lift_spells text (plain (symbol_name text)) z (global_name spaced h.name) h.name (symbol_spells text spaced h.name tt name))
+      (subst (λ (l : List Piece). Spells text (params (over m text) named >>= λ all. lift (attribute_marks text role) >>= λ marks. done (record { name = h.name; result = h.result; params = all; marks = marks })) z l (again_head h b o) u)
+      (ap (λ (l : List Piece). sign glued (codes "(") ++ l) (append_assoc (with_commas f glued h.params) (sign glued (codes ")")) marks))
+      (then_spells text (params (over m text) named) _ z u u (sign glued (codes "(") ++ (with_commas f glued h.params ++ sign glued (codes ")"))) marks h.params (again_head h b o) y
+      (made_spells text (lift (attribute_marks text role)) (λ marks. record { name = h.name; result = h.result; params = h.params; marks = marks }) u u marks (bound_marks b ++ address_marks o)
+      (lift_spells text (attribute_marks text role) u marks (bound_marks b ++ address_marks o) (marks_spell text role b o may))))))
 
   pub head_again : (named : Bool) (Same : Locals → Locals → Type 0) (P : Locals → Type 0) (f : List ℕ → ℕ × Ty → List Piece) → ParamsAgain m text named Same P f
       → (s z t : Locals) (tokens : List Token) (h : Head) → Same s z → (a_head m role named).means s tokens h t → P t → (b : Bool) (o : Option ℕ) → MayStand role o → HeadAgain m text sp role named Same f h z t b o

@@ -115,23 +115,26 @@ module _ (text : List ℕ) (role : Role) where
   unfolding an_attribute
   lone_item t bytes h =
       let s = string_head t bytes h in
-      inl (s.0, record {
-        front = t ∷ [];
-        back = [];
-        first = attribute.Text t;
-        between = tt;
-        parts = refl;
-        in_front = record {
+      inl (
+        s.0,
+        record {
           front = t ∷ [];
           back = [];
-          first = head.Text t;
+          first = attribute.Text t;
           between = tt;
           parts = refl;
-          in_front = record { token = t; alone = refl; value = s.1 };
-          in_back = inr (refl, (refl, refl, refl));
-        };
-        in_back = (refl, refl, refl);
-      })
+          in_front = record {
+            front = t ∷ [];
+            back = [];
+            first = head.Text t;
+            between = tt;
+            parts = refl;
+            in_front = record { token = t; alone = refl; value = s.1 };
+            in_back = inr (refl, (refl, refl, refl));
+          };
+          in_back = (refl, refl, refl);
+        },
+      )
 
   -- a string and its value
   value_item : (e v : Token) (bytes : List ℕ) → IsPiece text e (record { gap = glued; kind = kind.Sign; bytes = codes "=" }) → IsPiece text v (record { gap = glued; kind = kind.Quoted; bytes = bytes })
@@ -160,24 +163,29 @@ module _ (text : List ℕ) (role : Role) where
   unfolding an_attribute
   pair_item t e v key bytes ht he hv =
       let s = string_head t key ht in
-      inl (s.0, record {
-        front = t ∷ e ∷ v ∷ [];
-        back = [];
-        first = attribute.Pair t v;
-        between = tt;
-        parts = refl;
-        in_front = record {
-          front = t ∷ [];
-          back = e ∷ v ∷ [];
-          first = head.Text t;
+      inl (
+        s.0,
+        record {
+          front = t ∷ e ∷ v ∷ [];
+          back = [];
+          first = attribute.Pair t v;
           between = tt;
           parts = refl;
-          in_front = record { token = t; alone = refl; value = s.1 };
-          in_back = inl (tested text equals_by e (record { gap = glued; kind = kind.Sign; bytes = codes "=" }) he,
-            record { front = e ∷ v ∷ []; back = []; first = v; between = tt; parts = refl; in_front = value_item e v bytes he hv; in_back = (refl, refl, refl) });
-        };
-        in_back = (refl, refl, refl);
-      })
+          in_front = record {
+            front = t ∷ [];
+            back = e ∷ v ∷ [];
+            first = head.Text t;
+            between = tt;
+            parts = refl;
+            in_front = record { token = t; alone = refl; value = s.1 };
+            in_back = inl (
+              tested text equals_by e (record { gap = glued; kind = kind.Sign; bytes = codes "=" }) he,
+              record { front = e ∷ v ∷ []; back = []; first = v; between = tt; parts = refl; in_front = value_item e v bytes he hv; in_back = (refl, refl, refl) },
+            );
+          };
+          in_back = (refl, refl, refl);
+        },
+      )
     where
       equals_by : TokenKind → List ℕ → Bool
       equals_by k b = (kind_number k == kind_number kind.Sign) && bytes_eq b (codes "=")
@@ -218,7 +226,7 @@ module _ (text : List ℕ) (role : Role) where
   address_sets (Some n) (t ∷ e ∷ v ∷ []) h stand =
       let p = is_part n h in
       one_set (t ∷ e ∷ v ∷ []) [] (attribute.Pair t v) (mark.Address n) [] (pair_item t e v (quoted (codes "no.addr")) (quoted (decimal n)) stand.0 stand.1.0 stand.1.1.0)
-        (address_is t v n p.0 p.1 stand.0 stand.1.1.0) nothing_set
+      (address_is t v n p.0 p.1 stand.0 stand.1.1.0) nothing_set
   address_sets (Some n) (t ∷ e ∷ v ∷ u ∷ tokens) h stand = absurd stand.1.1.1
 
   bound_sets : (b : Bool) (o : Option ℕ) (tokens : List Token) → MayStand role o → Stand text tokens (bound_pieces b ++ address_pieces o) → Sets tokens (bound_marks b ++ address_marks o)

@@ -91,9 +91,9 @@ module _ (m : Meaning) (text : List ℕ) (role : Role) where
       → Spells text (tops (over m text) role) s (front ++ back) (x ∷ forms) t
   more s u t front back x forms h starts others =
       repeat_more text (more_tops (over m text) role) s u t front back x forms
-        (yes_spells text (begins_top text) (a_top (over m text) role >>= λ a. done (Some a)) (done None) s front (Some x) u (begins text (begins_top text) true front starts)
-          (made_spells text (a_top (over m text) role) (λ a. Some a) s u front x h))
-        others
+      (yes_spells text (begins_top text) (a_top (over m text) role >>= λ a. done (Some a)) (done None) s front (Some x) u (begins text (begins_top text) true front starts)
+      (made_spells text (a_top (over m text) role) (λ a. Some a) s u front x h))
+      others
 
   ended : Spells text (tops (over m text) role) true [] [] true
   ended = repeat_end text (more_tops (over m text) role) true true []
@@ -154,7 +154,7 @@ module _ (m : Meaning) (text : List ℕ) (role : Role) where
         subst (λ (l : List Piece). FormAgain l f) (defined_are sp f ∙ sym (ap (function_by sp f) x.some.is)) (defined_form _ f x.function)
     form_again w (inr r) st may =
         subst (λ (w : Written). FormAgain (function_pieces sp (set_function st w)) (set_function st w)) r.3
-          (let f = set_function st (declared r.1) in subst (λ (l : List Piece). FormAgain l f) (declared_are sp f) (declared_form _ f (declaration_again m text sp role bytes typed r.0 r.1 r.2 st may)))
+        (let f = set_function st (declared r.1) in subst (λ (l : List Piece). FormAgain l f) (declared_are sp f) (declared_form _ f (declaration_again m text sp role bytes typed r.0 r.1 r.2 st may)))
 
     module _ (groups : List ℕ → Settings) where
       one_function : (w : Written) (back : List Piece) (fs : List Function) → FormAgain (function_pieces sp (function_of m.text groups w)) (function_of m.text groups w)
@@ -189,8 +189,8 @@ module _ (m : Meaning) (text : List ℕ) (role : Role) where
     unfolding a_top global_top
     global_spells g s x =
         yes_spells text (is_kind kind.Global) (lift (a_global (over m text)) >>= λ g. done (top.Global g)) (if_next (is_kind kind.Meta) (node_top (over m text)) (worded (over m text) role)) s (global_pieces sp g) (top.Global g) s
-          (kind_begins text kind.Global kind.Global lined (64 ∷ spelling g.name) (behind_global g) true refl)
-          (made_spells text (lift (a_global (over m text))) (λ g. top.Global g) s s (global_pieces sp g) g (lift_spells text (a_global (over m text)) s (global_pieces sp g) g x))
+        (kind_begins text kind.Global kind.Global lined (64 ∷ spelling g.name) (behind_global g) true refl)
+        (made_spells text (lift (a_global (over m text))) (λ g. top.Global g) s s (global_pieces sp g) g (lift_spells text (a_global (over m text)) s (global_pieces sp g) g x))
 
     one_global : (g : GlobalVar) (tokens : List Token) → (a_global m).means tt tokens g tt → (back : List Piece) (gs : List GlobalVar) (fs : List Function)
         → FormsAgain (each (global_pieces sp) gs ++ back) gs fs → FormsAgain (each (global_pieces sp) (g ∷ gs) ++ back) (g ∷ gs) fs
@@ -199,7 +199,7 @@ module _ (m : Meaning) (text : List ℕ) (role : Role) where
           forms = top.Global g ∷ y.forms;
           spells = subst (λ (l : List Piece). Spells text (tops (over m text) role) true l (top.Global g ∷ y.forms) true) (sym (append_assoc (global_pieces sp g) (each (global_pieces sp) gs) back))
               (more true true true (global_pieces sp g) (each (global_pieces sp) gs ++ back) (top.Global g) y.forms (global_spells g true (global_again m text sp bytes typed consts tokens g k))
-                (global_tops text lined (64 ∷ spelling g.name) (behind_global g)) y.spells);
+              (global_tops text lined (64 ∷ spelling g.name) (behind_global g)) y.spells);
           globals = ap (λ (l : List GlobalVar). g ∷ l) y.globals;
           functions = y.functions;
           layout = y.layout;
@@ -225,7 +225,7 @@ module _ (m : Meaning) (text : List ℕ) (role : Role) where
           let x = functions_again groups (λ w h. settings_may m role m.text forms w.head.marks r h) forms r node (node_again (list_any has_inserted fs)) in
           let y = globals_again forms r (each (function_pieces sp) fs ++ node) fs x in
           let z = more false true true (layout_pieces layout) (each (global_pieces sp) (globals_in forms) ++ (each (function_pieces sp) fs ++ node)) (top.Layout layout) y.forms
-              (layout_spells m text role layout (layout_bytes m role [] forms tt r)) (layout_tops m text role layout) y.spells in
+          (layout_spells m text role layout (layout_bytes m role [] forms tt r)) (layout_tops m text role layout) y.spells in
           record {
             forms = top.Layout layout ∷ y.forms;
             stated = true;
@@ -241,12 +241,12 @@ module _ (m : Meaning) (text : List ℕ) (role : Role) where
       pub modules_again : (tokens others : List Token) (found : Module) → IsModuleOf m role types tokens found → Stand text others (form_pieces sp found) → IsModuleOf (over m text) role types others found
       modules_again tokens others found k stand =
           subst (λ (f : Module). IsModuleOf (over m text) role types others f) (sym k.is)
-            (forms_again k.forms (forms_read m role bytes false k.stated tokens k.forms k.meant) others (subst (λ (f : Module). Stand text others (form_pieces sp f)) k.is stand))
+          (forms_again k.forms (forms_read m role bytes false k.stated tokens k.forms k.meant) others (subst (λ (f : Module). Stand text others (form_pieces sp f)) k.is stand))
 
 pub law : (m : Meaning) (text : List ℕ) (role : Role) (types : List (List ℕ × Ty)) (tokens others : List Token) (found : Module) → AreBytes m.text → TypesFit m.types → BodyGrows m role → BodyAgain m text role (spelled_by m)
     → IsModuleOf m role types tokens found → Stand text others (form_pieces (spelled_by m) found) → IsModuleOf (over m text) role types others found
 law m text role types tokens others found bytes fit grows again k stand =
     modules_again m text role bytes
-      (λ gap used t r. (type_again m text bytes 64 gap tt tt tt used t tt r).2)
-      (λ t fits gap used c r. const_again m text bytes fit 64 t fits gap used c r)
-      grows again types tokens others found k stand
+    (λ gap used t r. (type_again m text bytes 64 gap tt tt tt used t tt r).2)
+    (λ t fits gap used c r. const_again m text bytes fit 64 t fits gap used c r)
+    grows again types tokens others found k stand

@@ -103,7 +103,7 @@ module _ (text : List ℕ) where
   definition_spells z gap name h =
       let p : Piece = record { gap = gap; kind = kind.Local; bytes = 37 ∷ spelling name } in
       one_spells text (written_register text) z p (place_of z.registers name) (register_defined z name).1
-        (λ token is. tested text (defined_by z) token p is ∙ ap (λ n. given true (register_defined z n)) (name_again name h))
+      (λ token is. tested text (defined_by z) token p is ∙ ap (λ n. given true (register_defined z n)) (name_again name h))
 
   own_spells : (z : Locals) (gap name : List ℕ) → AreBytes name → Spells text (own_name text) z (names.local_name gap name) (place_of z.registers name) (register_defined z name).1
   unfolding own_name
@@ -112,10 +112,10 @@ module _ (text : List ℕ) where
       let r : ℕ = place_of z.registers name in
       let p : Piece = record { gap = gap; kind = kind.Local; bytes = 37 ∷ spelling name } in
       then_spells text (maybe (is_kind kind.Local) (a_definition text)) or_no_name z u u (names.local_name gap name) [] (Some r) r
-        (yes_spells text (is_kind kind.Local) (a_definition text >>= λ a. done (Some a)) (done None) z (names.local_name gap name) (Some r) u
-          (begins text (is_kind kind.Local) true (names.local_name gap name) (λ token is. tested text (λ k bytes. kind_number k == kind_number kind.Local) token p is))
-          (made_spells text (a_definition text) (λ a. Some a) z u (names.local_name gap name) r (definition_spells z gap name h)))
-        (done_spells text u r)
+      (yes_spells text (is_kind kind.Local) (a_definition text >>= λ a. done (Some a)) (done None) z (names.local_name gap name) (Some r) u
+      (begins text (is_kind kind.Local) true (names.local_name gap name) (λ token is. tested text (λ k bytes. kind_number k == kind_number kind.Local) token p is))
+      (made_spells text (a_definition text) (λ a. Some a) z u (names.local_name gap name) r (definition_spells z gap name h)))
+      (done_spells text u r)
 
 -- ---- a register that is a place
 
@@ -157,7 +157,7 @@ param_parts m named s t tokens a k =
       own = n.front;
       called = subst (λ (u : Locals). (param_name m.text named).means s n.front a.0 u) (sym n.in_back.2)
           (subst (λ (x : ℕ × Ty). (param_name m.text named).means s n.front x.0 n.between) made
-            (subst (λ (u : Locals). (param_name m.text named).means u n.front n.first n.between) start n.in_front));
+          (subst (λ (u : Locals). (param_name m.text named).means u n.front n.first n.between) start n.in_front));
     }
 
 skip_spells : (text : List ℕ) → Spells text (skip_attributes text) tt [] tt tt
@@ -168,8 +168,8 @@ param_spells : (m : Meaning) (named : Bool) (z u : Locals) (front own : List Pie
 unfolding a_param
 param_spells m named z u front own r t x y =
     then_spells m.text (lift (a_type m 64)) _ z z u front own t (r, t) (lift_spells m.text (a_type m 64) z front t x)
-      (then_spells m.text (lift (skip_attributes m.text)) _ z z u [] own tt (r, t) (lift_spells m.text (skip_attributes m.text) z [] tt (skip_spells m.text))
-        (made_spells m.text (param_name m.text named) (λ register. (register, t)) z u own r y))
+    (then_spells m.text (lift (skip_attributes m.text)) _ z z u [] own tt (r, t) (lift_spells m.text (skip_attributes m.text) z [] tt (skip_spells m.text))
+    (made_spells m.text (param_name m.text named) (λ register. (register, t)) z u own r y))
 
 param_opens : (m : Meaning) (named : Bool) → Opens (is_sign m.text (codes ")")) false (a_param m named)
 unfolding a_param
@@ -193,7 +193,7 @@ module _ (m : Meaning) (text : List ℕ) (sp : Spelled) (typed : (gap : List ℕ
     params_by s z t tokens all like k p =
         let kept : k.between ≡ s = kept_state s _ k.first k.between k.in_front.value in
         let x = items_within Same P m.text text (codes ")") (a_param m named) (a_param (over m text) named) f closing before again (param_opens (over m text) named) glued glued k.between z t k.back all
-            (subst (λ (v : Locals). Same v z) (sym kept) like) k.in_back p in
+        (subst (λ (v : Locals). Same v z) (sym kept) like) k.in_back p in
         (x.0, x.1, sign_then text glued (codes "(") (λ _. items text (codes ")") (a_param (over m text) named)) z x.0 (with_commas f glued all ++ sign glued (codes ")")) all refl x.2)
 
   -- ---- in a declaration
@@ -204,10 +204,12 @@ module _ (m : Meaning) (text : List ℕ) (sp : Spelled) (typed : (gap : List ℕ
       let p = param_parts m false s t tokens a k in
       let c = place_is s t p.own a.0 p.called in
       let number : (register_unnamed z).0 ≡ a.0 = ap (λ (v : Locals). (register_unnamed v).0) (sym like) ∙ sym c.0 in
-      let spells = param_spells (over m text) false z (register_unnamed z).1 (type_at sp gap a.1) [] (register_unnamed z).0 a.1 (typed gap p.used a.1 p.typed) (place_spells text z) in
-      ((register_unnamed z).1, c.1 ∙ ap (λ (v : Locals). (register_unnamed v).1) like,
+      let spells = param_spells (over m text) false z (register_unnamed z).1 (type_at sp gap a.1) [] (register_unnamed z).0 a.1 (typed gap p.used a.1 p.typed) (place_spells text z) in (
+        (register_unnamed z).1,
+        c.1 ∙ ap (λ (v : Locals). (register_unnamed v).1) like,
         subst (λ (l : List Piece). Spells text (a_param (over m text) false) z l a (register_unnamed z).1) (append-nil (type_at sp gap a.1))
-          (subst (λ (n : ℕ). Spells text (a_param (over m text) false) z (type_at sp gap a.1 ++ []) (n, a.1) (register_unnamed z).1) number spells))
+            (subst (λ (n : ℕ). Spells text (a_param (over m text) false) z (type_at sp gap a.1 ++ []) (n, a.1) (register_unnamed z).1) number spells),
+      )
 
   pub declared_again : ParamsAgain m text false (λ s z. s ≡ z) (λ t. Unit {0}) (type_alone sp)
   declared_again = params_by false (λ s z. s ≡ z) (λ t. Unit {0}) (type_alone sp) (λ s t tokens a k p. tt) alone_again
@@ -230,8 +232,8 @@ module _ (m : Meaning) (text : List ℕ) (sp : Spelled) (typed : (gap : List ℕ
         let are : AreBytes c.name = c.bytes bytes like.counter in
         let at : name_at all a.0 ≡ c.name = ap (name_at all) c.number ∙ named_there s.registers all c.name (subst (λ (l : List (List ℕ)). IsLonger l all) c.registers w) in
         let number : place_of z.registers c.name ≡ a.0 = ap (λ (l : List (List ℕ)). place_of l c.name) (sym like.registers) ∙ sym c.number in
-        let spells = param_spells (over m text) true z u (type_at sp gap a.1) (names.local_name spaced c.name) (place_of z.registers c.name) a.1 (typed gap p.used a.1 p.typed) (own_spells text z spaced c.name are) in
-        (u,
+        let spells = param_spells (over m text) true z u (type_at sp gap a.1) (names.local_name spaced c.name) (place_of z.registers c.name) a.1 (typed gap p.used a.1 p.typed) (own_spells text z spaced c.name are) in (
+          u,
           record {
             registers = c.registers ∙ ap (λ (l : List (List ℕ)). with_name l c.name) like.registers;
             labels = c.labels ∙ like.labels;
@@ -240,7 +242,8 @@ module _ (m : Meaning) (text : List ℕ) (sp : Spelled) (typed : (gap : List ℕ
             counter = c.counter bytes like.counter;
           },
           subst (λ (n : List ℕ). Spells text (a_param (over m text) true) z (type_at sp gap a.1 ++ names.local_name spaced n) a u) (sym at)
-            (subst (λ (n : ℕ). Spells text (a_param (over m text) true) z (type_at sp gap a.1 ++ names.local_name spaced c.name) (n, a.1) u) number spells))
+              (subst (λ (n : ℕ). Spells text (a_param (over m text) true) z (type_at sp gap a.1 ++ names.local_name spaced c.name) (n, a.1) u) number spells),
+        )
 
     pub defined_again : ParamsAgain m text true Like (Within all) (param_pieces sp all)
     defined_again = params_by true Like (Within all) (param_pieces sp all) named_before named_again

@@ -65,4 +65,4 @@ module _ {S : Type 0} (text : List ℕ) where
   pub symbol_bytes : (s t : S) (tokens : List Token) (name : List ℕ) → AreBytes text → (plain {S = S} (symbol_name text)).means s tokens name t → AreBytes name
   symbol_bytes s t tokens name h m =
       subst AreBytes (given_is (is_kind kind.Global m.token) (name_of (drop 1 (spelled text m.token))) name (kept_value s (symbol_name text m.token) name t m.value))
-        (bytes_name (drop 1 (spelled text m.token)) (bytes_drop 1 (spelled text m.token) (bytes_spelled text m.token h)))
+      (bytes_name (drop 1 (spelled text m.token)) (bytes_drop 1 (spelled text m.token) (bytes_spelled text m.token h)))

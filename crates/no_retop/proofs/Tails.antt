@@ -114,9 +114,9 @@ module _ (text : List ℕ) where
   unfolding a_tail
   tail_spells n h =
       sign_then text glued (codes ",") _ tt tt (word spaced (codes "align") ++ integer spaced (decimal n)) (Some n) refl
-        (then_spells text (plain (tail_head text)) _ tt tt tt (word spaced (codes "align")) (integer spaced (decimal n)) Align (Some n) head_spells
-          (made_spells text (after_tail_head text Align) (λ align. align) tt tt (integer spaced (decimal n)) (Some n)
-            (made_spells text (plain (alignment_of text)) (λ n. Some n) tt tt (integer spaced (decimal n)) n (number_spells n h))))
+      (then_spells text (plain (tail_head text)) _ tt tt tt (word spaced (codes "align")) (integer spaced (decimal n)) Align (Some n) head_spells
+      (made_spells text (after_tail_head text Align) (λ align. align) tt tt (integer spaced (decimal n)) (Some n)
+      (made_spells text (plain (alignment_of text)) (λ n. Some n) tt tt (integer spaced (decimal n)) n (number_spells n h))))
 
   none_spells : Spells text (more_tail text) tt [] None tt
   none_spells = no_spells text (is_comma text) (a_tail text >>= λ a. done (Some a)) (done None) tt [] None tt (begins_none text (is_comma text)) (done_spells text tt None)

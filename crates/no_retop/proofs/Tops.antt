@@ -96,12 +96,12 @@ module _ (text : List ℕ) where
   unfolding a_node bracketed
   node_spells =
       then_spells text (plain (metadata_of text)) _ tt tt tt (piece kind.Meta lined (codes "!0")) _ tt tt (plain_spells text node_by tt (record { gap = lined; kind = kind.Meta; bytes = codes "!0" }) tt refl)
-        (sign_then text spaced (codes "=") _ tt tt (piece kind.Meta spaced (codes "!") ++ (sign glued (codes "{") ++ sign glued (codes "}"))) tt refl
-          (then_spells text (maybe (is_distinct text) (a_word text (codes "distinct"))) _ tt tt tt [] (piece kind.Meta spaced (codes "!") ++ (sign glued (codes "{") ++ sign glued (codes "}"))) None tt
-            (no_spells text (is_distinct text) (a_word text (codes "distinct") >>= λ a. done (Some a)) (done None) tt [] None tt (begins_none text (is_distinct text)) (done_spells text tt None))
-            (then_spells text (plain (bare_of text)) _ tt tt tt (piece kind.Meta spaced (codes "!")) (sign glued (codes "{") ++ sign glued (codes "}")) tt tt
-              (plain_spells text bare_by tt (record { gap = spaced; kind = kind.Meta; bytes = codes "!" }) tt refl)
-              (sign_then text glued (codes "{") (λ _. to_close text (codes "{") (codes "}")) tt tt (sign glued (codes "}")) tt refl close_spells))))
+      (sign_then text spaced (codes "=") _ tt tt (piece kind.Meta spaced (codes "!") ++ (sign glued (codes "{") ++ sign glued (codes "}"))) tt refl
+      (then_spells text (maybe (is_distinct text) (a_word text (codes "distinct"))) _ tt tt tt [] (piece kind.Meta spaced (codes "!") ++ (sign glued (codes "{") ++ sign glued (codes "}"))) None tt
+      (no_spells text (is_distinct text) (a_word text (codes "distinct") >>= λ a. done (Some a)) (done None) tt [] None tt (begins_none text (is_distinct text)) (done_spells text tt None))
+      (then_spells text (plain (bare_of text)) _ tt tt tt (piece kind.Meta spaced (codes "!")) (sign glued (codes "{") ++ sign glued (codes "}")) tt tt
+      (plain_spells text bare_by tt (record { gap = spaced; kind = kind.Meta; bytes = codes "!" }) tt refl)
+      (sign_then text glued (codes "{") (λ _. to_close text (codes "{") (codes "}")) tt tt (sign glued (codes "}")) tt refl close_spells))))
 
   -- ---- with which a form begins
 
@@ -137,15 +137,15 @@ module _ (m : Meaning) (text : List ℕ) (role : Role) where
   unfolding a_top worded
   worded_spells gap w which back x s t e h =
       no_spells text (is_kind kind.Global) (global_top (over m text)) (if_next (is_kind kind.Meta) (node_top (over m text)) (worded (over m text) role)) s (word gap w ++ back) x t (kind_begins text kind.Word kind.Global gap w back false refl)
-        (no_spells text (is_kind kind.Meta) (node_top (over m text)) (worded (over m text) role) s (word gap w ++ back) x t (kind_begins text kind.Word kind.Meta gap w back false refl)
-          (then_spells text (plain (top_word text)) (after_word (over m text) role) s s t (word gap w) back which x
-            (plain_spells text (λ k bytes. or_syntax (word_by text k bytes)) s (record { gap = gap; kind = kind.Word; bytes = w }) which (ap or_syntax e)) h))
+      (no_spells text (is_kind kind.Meta) (node_top (over m text)) (worded (over m text) role) s (word gap w ++ back) x t (kind_begins text kind.Word kind.Meta gap w back false refl)
+      (then_spells text (plain (top_word text)) (after_word (over m text) role) s s t (word gap w) back which x
+      (plain_spells text (λ k bytes. or_syntax (word_by text k bytes)) s (record { gap = gap; kind = kind.Word; bytes = w }) which (ap or_syntax e)) h))
 
   pub layout_spells : (layout : List ℕ) → AreBytes layout → Spells text (a_top (over m text) role) false (layout_pieces layout) (top.Layout layout) true
   unfolding target_top
   layout_spells layout h =
       worded_spells glued (codes "target") begins.Target (word spaced (codes "datalayout") ++ (sign spaced (codes "=") ++ string spaced layout)) (top.Layout layout) false true refl
-        (made_spells text (a_target text) layout_top false true (word spaced (codes "datalayout") ++ (sign spaced (codes "=") ++ string spaced layout)) (Some layout) (target_spells text layout h))
+      (made_spells text (a_target text) layout_top false true (word spaced (codes "datalayout") ++ (sign spaced (codes "=") ++ string spaced layout)) (Some layout) (target_spells text layout h))
 
   pub layout_tops : (layout : List ℕ) → Tops text (layout_pieces layout)
   layout_tops layout = word_tops text glued (codes "target") begins.Target (word spaced (codes "datalayout") ++ (sign spaced (codes "=") ++ string spaced layout)) refl
@@ -154,6 +154,6 @@ module _ (m : Meaning) (text : List ℕ) (role : Role) where
   unfolding a_top node_top
   node_top_spells s =
       no_spells text (is_kind kind.Global) (global_top (over m text)) (if_next (is_kind kind.Meta) (node_top (over m text)) (worded (over m text) role)) s (node_pieces true) top.Nothing s (kind_begins text kind.Meta kind.Global lined (codes "!0") (sign spaced (codes "=") ++ (piece kind.Meta spaced (codes "!") ++ (sign glued (codes "{") ++ sign glued (codes "}")))) false refl)
-        (yes_spells text (is_kind kind.Meta) (lift (a_node text) >>= λ _. done top.Nothing) (worded (over m text) role) s (node_pieces true) top.Nothing s
-          (kind_begins text kind.Meta kind.Meta lined (codes "!0") (sign spaced (codes "=") ++ (piece kind.Meta spaced (codes "!") ++ (sign glued (codes "{") ++ sign glued (codes "}")))) true refl)
-          (made_spells text (lift (a_node text)) (λ _. top.Nothing) s s (node_pieces true) tt (lift_spells text (a_node text) s (node_pieces true) tt (node_spells text))))
+      (yes_spells text (is_kind kind.Meta) (lift (a_node text) >>= λ _. done top.Nothing) (worded (over m text) role) s (node_pieces true) top.Nothing s
+      (kind_begins text kind.Meta kind.Meta lined (codes "!0") (sign spaced (codes "=") ++ (piece kind.Meta spaced (codes "!") ++ (sign glued (codes "{") ++ sign glued (codes "}")))) true refl)
+      (made_spells text (lift (a_node text)) (λ _. top.Nothing) s s (node_pieces true) tt (lift_spells text (a_node text) s (node_pieces true) tt (node_spells text))))
