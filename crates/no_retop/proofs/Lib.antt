@@ -1,0 +1,14 @@
+pub mod Amounts
+pub mod Counts
+pub mod Forms
+pub mod Functions
+pub mod Globals
+pub mod Heads
+pub mod Marks
+pub mod Modules
+pub mod Openings
+pub mod Params
+pub mod Steps
+pub mod Tails
+pub mod Tops
+pub mod Within
