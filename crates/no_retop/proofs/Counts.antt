@@ -8,7 +8,8 @@ use Rattle.no_lex.specs.Spelling.{is_digits}
 use Rattle.no_locals.specs.Counting.{next, stripped, behind_name}
 use Rattle.no_print.specs.Names.{name_at}
 use Rattle.no_reread.specs.Spells.{AreBytes}
-use Rattle.no_retop.specs.Bodies.{AreNames, IsLonger}
+use Rattle.no_reinstr.specs.States.{AreNames}
+use Rattle.no_retop.proofs.Bodies.{IsLonger}
 
 -- ---- bytes of a counter
 

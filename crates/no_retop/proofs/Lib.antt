@@ -1,4 +1,5 @@
 pub mod Amounts
+pub mod Bodies
 pub mod Counts
 pub mod Forms
 pub mod Functions

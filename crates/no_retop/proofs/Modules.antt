@@ -35,7 +35,7 @@ use Rattle.no_reread.proofs.Frame.{done_spells, made_spells, lift_spells, yes_sp
 use Rattle.no_reread.proofs.Listing.{repeat_end, repeat_more}
 use Rattle.no_reread.proofs.Standing.{begins, begins_none}
 use Rattle.no_reread.proofs.TypesAgain.{type_again}
-use Rattle.no_retop.specs.Bodies.{BodyGrows, BodyAgain}
+use Rattle.no_retop.proofs.Bodies.{BodyGrows, BodyAgain, BodyBack, body_grows, body_again}
 use Rattle.no_retop.specs.Printed.{form_pieces}
 use Rattle.no_retop.proofs.Forms.{WasRead, FormsRead, settings_may, layout_bytes, forms_read}
 use Rattle.no_retop.proofs.Functions.{FunctionAgain, declaration_again, function_again}
@@ -243,10 +243,10 @@ module _ (m : Meaning) (text : List ℕ) (role : Role) where
           subst (λ (f : Module). IsModuleOf (over m text) role types others f) (sym k.is)
           (forms_again k.forms (forms_read m role bytes false k.stated tokens k.forms k.meant) others (subst (λ (f : Module). Stand text others (form_pieces sp f)) k.is stand))
 
-pub law : (m : Meaning) (text : List ℕ) (role : Role) (types : List (List ℕ × Ty)) (tokens others : List Token) (found : Module) → AreBytes m.text → TypesFit m.types → BodyGrows m role → BodyAgain m text role (spelled_by m)
+pub law : (m : Meaning) (text : List ℕ) (role : Role) (types : List (List ℕ × Ty)) (tokens others : List Token) (found : Module) → AreBytes m.text → TypesFit m.types → BodyBack m text role
     → IsModuleOf m role types tokens found → Stand text others (form_pieces (spelled_by m) found) → IsModuleOf (over m text) role types others found
-law m text role types tokens others found bytes fit grows again k stand =
+law m text role types tokens others found bytes fit back k stand =
     modules_again m text role bytes
     (λ gap used t r. (type_again m text bytes 64 gap tt tt tt used t tt r).2)
     (λ t fits gap used c r. const_again m text bytes fit 64 t fits gap used c r)
-    grows again types tokens others found k stand
+    (body_grows m text role back) (body_again m text role back) types tokens others found k stand

@@ -29,7 +29,8 @@ use Rattle.no_reread.proofs.Listing.{IsClose}
 use Rattle.no_reread.proofs.Names.{name_again}
 use Rattle.no_reread.proofs.Opening.{Opens, kept_state, then_opens, lift_opens}
 use Rattle.no_reread.proofs.Standing.{stand_none, begins, begins_none}
-use Rattle.no_retop.specs.Bodies.{AreNames, IsLonger, Like}
+use Rattle.no_reinstr.specs.States.{AreNames, IsFine}
+use Rattle.no_retop.proofs.Bodies.{Alike, IsLonger}
 use Rattle.no_retop.proofs.Counts.{names_with, reverse_bytes, next_are, behind_bytes, longer_then, longer_named, named_there}
 use Rattle.no_retop.proofs.Openings.{type_no_close}
 use Rattle.no_retop.proofs.Steps.{Twice, tested, given, given_is, sign_then}
@@ -223,33 +224,34 @@ module _ (m : Meaning) (text : List ℕ) (sp : Spelled) (typed : (gap : List ℕ
         let c = own_called m.text s t p.own a.0 p.called in
         longer_then s.registers t.registers all (subst (λ (l : List (List ℕ)). IsLonger s.registers l) (sym c.registers) (longer_named s.registers c.name)) w
 
-    named_again : (gap : List ℕ) (s z t : Locals) (tokens : List Token) (a : ℕ × Ty) → Like s z → (a_param m true).means s tokens a t → Within all t
-        → (u : Locals) × Like t u × Spells text (a_param (over m text) true) z (param_pieces sp all gap a) a u
+    named_again : (gap : List ℕ) (s z t : Locals) (tokens : List Token) (a : ℕ × Ty) → Alike s z → (a_param m true).means s tokens a t → Within all t
+        → (u : Locals) × Alike t u × Spells text (a_param (over m text) true) z (param_pieces sp all gap a) a u
     named_again gap s z t tokens a like k w =
         let p = param_parts m true s t tokens a k in
         let c = own_called m.text s t p.own a.0 p.called in
         let u : Locals = (register_defined z c.name).1 in
-        let are : AreBytes c.name = c.bytes bytes like.counter in
+        let are : AreBytes c.name = c.bytes bytes like.fine.counter in
         let at : name_at all a.0 ≡ c.name = ap (name_at all) c.number ∙ named_there s.registers all c.name (subst (λ (l : List (List ℕ)). IsLonger l all) c.registers w) in
-        let number : place_of z.registers c.name ≡ a.0 = ap (λ (l : List (List ℕ)). place_of l c.name) (sym like.registers) ∙ sym c.number in
+        let number : place_of z.registers c.name ≡ a.0 = ap (λ (l : List (List ℕ)). place_of l c.name) like.like.registers ∙ sym c.number in
         let spells = param_spells (over m text) true z u (type_at sp gap a.1) (names.local_name spaced c.name) (place_of z.registers c.name) a.1 (typed gap p.used a.1 p.typed) (own_spells text z spaced c.name are) in (
           u,
           record {
-            registers = c.registers ∙ ap (λ (l : List (List ℕ)). with_name l c.name) like.registers;
-            labels = c.labels ∙ like.labels;
-            register_names = subst AreNames (sym c.registers) (names_with s.registers c.name like.register_names are);
-            label_names = subst AreNames (sym c.labels) like.label_names;
-            counter = c.counter bytes like.counter;
+            like = record { registers = ap (λ (l : List (List ℕ)). with_name l c.name) like.like.registers ∙ sym c.registers; labels = like.like.labels ∙ sym c.labels };
+            fine = record {
+              registers = subst AreNames (sym c.registers) (names_with s.registers c.name like.fine.registers are);
+              labels = subst AreNames (sym c.labels) like.fine.labels;
+              counter = c.counter bytes like.fine.counter;
+            };
           },
           subst (λ (n : List ℕ). Spells text (a_param (over m text) true) z (type_at sp gap a.1 ++ names.local_name spaced n) a u) (sym at)
               (subst (λ (n : ℕ). Spells text (a_param (over m text) true) z (type_at sp gap a.1 ++ names.local_name spaced c.name) (n, a.1) u) number spells),
         )
 
-    pub defined_again : ParamsAgain m text true Like (Within all) (param_pieces sp all)
-    defined_again = params_by true Like (Within all) (param_pieces sp all) named_before named_again
+    pub defined_again : ParamsAgain m text true Alike (Within all) (param_pieces sp all)
+    defined_again = params_by true Alike (Within all) (param_pieces sp all) named_before named_again
 
     pub params_before : (s t : Locals) (tokens : List Token) (ps : List (ℕ × Ty)) → (params m true).means s tokens ps t → Within all t → Within all s
     unfolding params
     params_before s t tokens ps k w =
         let kept : k.between ≡ s = kept_state s _ k.first k.between k.in_front.value in
-        subst (Within all) kept (items_before Like (Within all) m.text text (codes ")") (a_param m true) (a_param (over m text) true) (param_pieces sp all) closing named_before named_again k.between t k.back ps k.in_back w)
+        subst (Within all) kept (items_before Alike (Within all) m.text text (codes ")") (a_param m true) (a_param (over m text) true) (param_pieces sp all) closing named_before named_again k.between t k.back ps k.in_back w)
