@@ -35,7 +35,7 @@ use Rattle.no_reread.proofs.Frame.{done_spells, made_spells, lift_spells, yes_sp
 use Rattle.no_reread.proofs.Listing.{repeat_end, repeat_more}
 use Rattle.no_reread.proofs.Standing.{begins, begins_none}
 use Rattle.no_reread.proofs.TypesAgain.{type_again}
-use Rattle.no_retop.proofs.Bodies.{BodyGrows, BodyAgain, BodyBack, body_grows, body_again}
+use Rattle.no_retop.proofs.Bodies.{BodyBack}
 use Rattle.no_retop.specs.Printed.{form_pieces}
 use Rattle.no_retop.proofs.Forms.{WasRead, FormsRead, settings_may, layout_bytes, forms_read}
 use Rattle.no_retop.proofs.Functions.{FunctionAgain, declaration_again, function_again}
@@ -112,7 +112,7 @@ module _ (m : Meaning) (text : List ℕ) (role : Role) where
   module _ (bytes : AreBytes m.text)
       (typed : (gap : List ℕ) → Twice text (a_type m 64) (a_type (over m text) 64) (type_at (spelled_by m) gap))
       (consts : (t : Ty) → TypeFits t → (gap : List ℕ) → Twice text (a_const m 64 t) (a_const (over m text) 64 t) (λ c. const_pieces (spelled_by m) c t gap))
-      (grows : BodyGrows m role) (again : BodyAgain m text role (spelled_by m)) where
+      (back_again : BodyBack m text role) where
     abbrev sp : Spelled
     sp = spelled_by m
 
@@ -149,12 +149,12 @@ module _ (m : Meaning) (text : List ℕ) (role : Role) where
 
     form_again : (w : Written) → WasRead m role w → (st : Settings) → MayStand role st.address → FormAgain (function_pieces sp (set_function st w)) (set_function st w)
     form_again w (inl r) st may =
-        let x = function_again m text sp role bytes typed grows again r.0 w r.1 st may in
+        let x = function_again m text role bytes typed back_again r.0 w r.1 st may in
         let f = set_function st w in
         subst (λ (l : List Piece). FormAgain l f) (defined_are sp f ∙ sym (ap (function_by sp f) x.some.is)) (defined_form _ f x.function)
     form_again w (inr r) st may =
         subst (λ (w : Written). FormAgain (function_pieces sp (set_function st w)) (set_function st w)) r.3
-        (let f = set_function st (declared r.1) in subst (λ (l : List Piece). FormAgain l f) (declared_are sp f) (declared_form _ f (declaration_again m text sp role bytes typed r.0 r.1 r.2 st may)))
+        (let f = set_function st (declared r.1) in subst (λ (l : List Piece). FormAgain l f) (declared_are sp f) (declared_form _ f (declaration_again m text role bytes typed r.0 r.1 r.2 st may)))
 
     module _ (groups : List ℕ → Settings) where
       one_function : (w : Written) (back : List Piece) (fs : List Function) → FormAgain (function_pieces sp (function_of m.text groups w)) (function_of m.text groups w)
@@ -249,4 +249,4 @@ law m text role types tokens others found bytes fit back k stand =
     modules_again m text role bytes
     (λ gap used t r. (type_again m text bytes 64 gap tt tt tt used t tt r).2)
     (λ t fits gap used c r. const_again m text bytes fit 64 t fits gap used c r)
-    (body_grows m text role back) (body_again m text role back) types tokens others found k stand
+    back types tokens others found k stand
