@@ -1,5 +1,5 @@
 -- The bodies of functions are read again, and the states in which they are.
-use Rattle.std.proofs.Common.{◌≡◌, ℕ, List, [], ◌∷◌, ◌++◌, codes, sym, append-nil}
+use Rattle.std.proofs.Common.{ℕ, List, [], ◌++◌, codes, sym, append-nil}
 use Rattle.no_ir.specs.declared.function.Block.{Block}
 use Rattle.no_ir.specs.declared.function.Role.{Role}
 use Rattle.no_lex.specs.declared.token.Token.{Token}

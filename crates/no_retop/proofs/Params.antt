@@ -4,7 +4,7 @@ use Rattle.no_ir.specs.declared.types.Ty.{Ty}
 use Rattle.no_lex.specs.declared.token.Token.{Token}
 use Rattle.no_lex.specs.declared.token.TokenKind.TheVariants as kind
 use Rattle.no_grammar.specs.Lists.{items}
-use Rattle.no_grammar.specs.Rules.{done, ◌>>=◌, lift, maybe}
+use Rattle.no_grammar.specs.Rules.{lift, maybe}
 use Rattle.no_grammar.specs.Scope.{Meaning}
 use Rattle.no_grammar.specs.Spelled.{is_kind, is_sign, only_where}
 use Rattle.no_grammar.specs.Types.{a_type}
