@@ -30,6 +30,7 @@ use Rattle.no_print.specs.Names.{global_name, spelling}
 use Rattle.no_print.specs.Pieces.{Piece, glued, spaced, lined, parted, piece, word, sign, with_commas}
 use Rattle.no_print.specs.Stand.{Stand}
 use Rattle.no_reread.specs.Spells.{AreBytes, TypeFits, TypesFit, Spells, over, spelled_by}
+use Rattle.no_reinstr.proofs.Bodies.{body_returns}
 use Rattle.no_reread.proofs.ConstsAgain.{const_again}
 use Rattle.no_reread.proofs.Frame.{done_spells, made_spells, lift_spells, yes_spells, no_spells}
 use Rattle.no_reread.proofs.Listing.{repeat_end, repeat_more}
@@ -243,10 +244,11 @@ module _ (m : Meaning) (text : List ℕ) (role : Role) where
           subst (λ (f : Module). IsModuleOf (over m text) role types others f) (sym k.is)
           (forms_again k.forms (forms_read m role bytes false k.stated tokens k.forms k.meant) others (subst (λ (f : Module). Stand text others (form_pieces sp f)) k.is stand))
 
-pub law : (m : Meaning) (text : List ℕ) (role : Role) (types : List (List ℕ × Ty)) (tokens others : List Token) (found : Module) → AreBytes m.text → TypesFit m.types → BodyBack m text role
+pub law : (m : Meaning) (text : List ℕ) (role : Role) (types : List (List ℕ × Ty)) (tokens others : List Token) (found : Module) → AreBytes m.text → TypesFit m.types
     → IsModuleOf m role types tokens found → Stand text others (form_pieces (spelled_by m) found) → IsModuleOf (over m text) role types others found
-law m text role types tokens others found bytes fit back k stand =
+law m text role types tokens others found bytes fit k stand =
     modules_again m text role bytes
-    (λ gap used t r. (type_again m text bytes 64 gap tt tt tt used t tt r).2)
-    (λ t fits gap used c r. const_again m text bytes fit 64 t fits gap used c r)
-    back types tokens others found k stand
+      (λ gap used t r. (type_again m text bytes 64 gap tt tt tt used t tt r).2)
+      (λ t fits gap used c r. const_again m text bytes fit 64 t fits gap used c r)
+      (λ s t used bs r. body_returns m text bytes fit t role s t used bs r)
+      types tokens others found k stand

@@ -1,0 +1,15 @@
+pub mod Within
+pub mod Returning
+pub mod Registers
+pub mod Beginnings
+pub mod Operands
+pub mod Ends
+pub mod Forms
+pub mod Lists
+pub mod Memory
+pub mod Flow
+pub mod Allocas
+pub mod Calls
+pub mod Heads
+pub mod Works
+pub mod Bodies

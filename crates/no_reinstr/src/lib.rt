@@ -1,0 +1,2 @@
+//! What was read of functions' bodies is read again where it is printed.
+#![tactic(auto)]
