@@ -51,8 +51,8 @@ module _ (text : List ℕ) where
   kind_spells : (b : Bool) → Spells {S = Unit {0}} text (behind (is_idle text) (plain (constant_of text))) tt (word spaced (kind_word b)) b tt
   kind_spells b =
       behind_spells text (is_idle text) (plain (constant_of text)) tt (word spaced (kind_word b)) b tt
-        (begins text (is_idle text) false (word spaced (kind_word b)) (λ token h. tested text idle_by token (kind_piece b) h ∙ not_idle b))
-        (plain_spells text constant_by tt (kind_piece b) b (is_constant b))
+      (begins text (is_idle text) false (word spaced (kind_word b)) (λ token h. tested text idle_by token (kind_piece b) h ∙ not_idle b))
+      (plain_spells text constant_by tt (kind_piece b) b (is_constant b))
 
 module _ (m : Meaning) (text : List ℕ) (s : Spelled) (bytes : AreBytes m.text)
     (typed : (gap : List ℕ) → Twice text (a_type m 64) (a_type (over m text) 64) (type_at s gap))

@@ -248,7 +248,7 @@ pub law : (m : Meaning) (text : List ℕ) (role : Role) (types : List (List ℕ 
     → IsModuleOf m role types tokens found → Stand text others (form_pieces (spelled_by m) found) → IsModuleOf (over m text) role types others found
 law m text role types tokens others found bytes fit k stand =
     modules_again m text role bytes
-      (λ gap used t r. (type_again m text bytes 64 gap tt tt tt used t tt r).2)
-      (λ t fits gap used c r. const_again m text bytes fit 64 t fits gap used c r)
-      (λ s t used bs r. body_returns m text bytes fit t role s t used bs r)
-      types tokens others found k stand
+    (λ gap used t r. (type_again m text bytes 64 gap tt tt tt used t tt r).2)
+    (λ t fits gap used c r. const_again m text bytes fit 64 t fits gap used c r)
+    (λ s t used bs r. body_returns m text bytes fit t role s t used bs r)
+    types tokens others found k stand

@@ -36,9 +36,9 @@ module _ (text : List ℕ) where
   unfolding own_name
   own_spells z u gap name r x =
       then_spells text (maybe (is_kind kind.Local) (a_definition text)) or_no_name z u u (local_name gap name) [] (Some r) r
-        (some_spells text (is_kind kind.Local) (a_definition text) z (local_name gap name) r u
-          (begins text (is_kind kind.Local) true (local_name gap name) (λ token h. kind_tested text kind.Local (record { gap = gap; kind = kind.Local; bytes = 37 ∷ spelling name }) token h)) x)
-        (done_spells text u r)
+      (some_spells text (is_kind kind.Local) (a_definition text) z (local_name gap name) r u
+      (begins text (is_kind kind.Local) true (local_name gap name) (λ token h. kind_tested text kind.Local (record { gap = gap; kind = kind.Local; bytes = 37 ∷ spelling name }) token h)) x)
+      (done_spells text u r)
 
 module _ (from text : List ℕ) (bytes : AreBytes from) (last : Locals) where
   abbrev Own : List ℕ → Locals → ℕ → Locals → Type 0
