@@ -34,10 +34,10 @@ use Rattle.no_reread.proofs.Listing.{EachSpells, IsClose, items_spell, no_items_
 use Rattle.no_reread.proofs.Opening.{Opens, lift_opens, then_opens}
 use Rattle.no_reread.proofs.Standing.{Begins, begins_none, stand_none}
 use Rattle.no_reread.proofs.TypesAgain.{type_opens}
-use Rattle.no_reinstr.specs.States.{Like, IsFine, named_by}
+use Rattle.no_reinstr.specs.States.{Like, Follows, IsFine, named_by}
 use Rattle.no_reinstr.proofs.Ends.{MarkFits, mark_read, mark_spells}
 use Rattle.no_reinstr.proofs.Operands.{ptr_fits, sign_back, type_back, type_fits, operand_back, operand_plain}
-use Rattle.no_reinstr.proofs.Returning.{Holds, Returns, ending, lifted, value_is, pieces_are, then_returns, made_returns}
+use Rattle.no_reinstr.proofs.Returning.{Returns, ending, lifted, value_is, pieces_are, then_returns, made_returns}
 
 -- ---- attributes
 
@@ -70,8 +70,8 @@ module _ {A : Type 0} (from text close : List ℕ) (last : Locals) (item other :
     (again : (gap : List ℕ) (s t : Locals) (tokens : List Token) (a : A) → item.means s tokens a t → Returns text last other (f gap a) a s t) where
   record EachBack (all : List A) (s t : Locals) : Type 0 where
     pub fine : IsFine s → IsFine t
-    pub holds : Holds last t → Holds last s
-    pub spells : IsFine s → Holds last t → (z : Locals) → Like s z → (u : Locals) × Like t u × EachSpells text other (f spaced) z all u
+    pub holds : Follows t last → Follows s last
+    pub spells : IsFine s → Follows t last → (z : Locals) → Like s z → (u : Locals) × Like t u × EachSpells text other (f spaced) z all u
 
   none_left : (s t : Locals) → t ≡ s → EachBack [] s t
   none_left s t e = subst (λ v. EachBack [] s v) (sym e) (record { fine = λ h. h; holds = λ w. w; spells = λ h w z l. (z, l, refl) })

@@ -12,4 +12,4 @@ pub mod Allocas
 pub mod Calls
 pub mod Heads
 pub mod Works
-pub mod Bodies
+pub mod BodyAgain

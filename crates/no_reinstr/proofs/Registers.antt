@@ -24,7 +24,7 @@ use Rattle.no_reread.proofs.Frame.{one_spells}
 use Rattle.no_reread.proofs.Names.{name_again, string_again}
 use Rattle.no_reread.proofs.Opening.{from_fine}
 use Rattle.no_reinstr.specs.States.{Like, IsFine}
-use Rattle.no_reinstr.proofs.Returning.{Holds, Returns}
+use Rattle.no_reinstr.proofs.Returning.{Returns}
 use Rattle.no_reinstr.proofs.Within.{name_placed, grown, names_with, bytes_back, bytes_next, bytes_counter}
 
 abbrev Answer : Type 0

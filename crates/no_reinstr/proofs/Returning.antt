@@ -14,19 +14,13 @@ use Rattle.no_reread.proofs.Frame.{done_spells, lift_spells, yes_spells, no_spel
 use Rattle.no_reread.proofs.Listing.{repeat_end, repeat_more}
 use Rattle.no_reread.proofs.Skipping.{behind_spells}
 use Rattle.no_reread.proofs.Standing.{Begins, stand_none, stand_parts}
-use Rattle.no_reinstr.specs.States.{Like, IsFine}
-use Rattle.no_reinstr.proofs.Within.{Within}
-
--- the names of a state, and perhaps more behind them, are those of the last state
-pub record Holds (last t : Locals) : Type 0 where
-  pub registers : Within t.registers last.registers
-  pub labels : Within t.labels last.labels
+use Rattle.no_reinstr.specs.States.{Like, Follows, IsFine}
 
 -- where the first text led from a state to another, the pieces spell this value from any state like the one to a state like the other
 pub record Returns {A : Type 0} (text : List ℕ) (last : Locals) (q : Rule Locals A) (pieces : List Piece) (a : A) (s t : Locals) : Type 0 where
   pub fine : IsFine s → IsFine t
-  pub holds : Holds last t → Holds last s
-  pub spells : IsFine s → Holds last t → (z : Locals) → Like s z → (u : Locals) × Like t u × Spells text q z pieces a u
+  pub holds : Follows t last → Follows s last
+  pub spells : IsFine s → Follows t last → (z : Locals) → Like s z → (u : Locals) × Like t u × Spells text q z pieces a u
 
 -- ---- rules that go on as long as the next token passes
 

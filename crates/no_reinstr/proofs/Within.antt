@@ -9,12 +9,7 @@ use Rattle.no_ir.specs.Naming.{is_known, place_of, with_name}
 use Rattle.no_locals.specs.Counting.{next, stripped, behind_name}
 use Rattle.no_print.specs.Names.{name_at}
 use Rattle.no_reread.specs.Spells.{AreBytes}
-use Rattle.no_reinstr.specs.States.{AreNames}
-
--- these names, and more behind them
-pub record Within (names all : List (List ℕ)) : Type 0 where
-  pub rest : List (List ℕ)
-  pub is : all ≡ names ++ rest
+use Rattle.no_reinstr.specs.States.{Within, AreNames}
 
 -- ---- a name that has appeared
 

@@ -1,2 +1,6 @@
-//! What was read of functions' bodies is read again where it is printed.
+//! What was read of the bodies of functions is read again where it is printed.
 #![tactic(auto)]
+
+mod bodies;
+
+pub use bodies::bodies_mean_again;

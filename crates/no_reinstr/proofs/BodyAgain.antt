@@ -23,10 +23,9 @@ use Rattle.no_reread.specs.Spells.{AreBytes, Spells, TypesFit, over, spelled_by}
 use Rattle.no_reread.proofs.Listing.{sign_spells}
 use Rattle.no_reread.proofs.Opening.{kept_state}
 use Rattle.no_reread.proofs.Standing.{Begins, begins, kind_tested, sign_tested}
-use Rattle.no_reinstr.specs.States.{Like, IsFine, named_by}
+use Rattle.no_reinstr.specs.States.{Like, Follows, IsFine, named_by}
 use Rattle.no_reinstr.proofs.Registers.{block_label_again, no_block_label_again}
-use Rattle.no_reinstr.proofs.Returning.{Holds, Returns, ending, starting, given, pieces_are, yes_returns, no_returns, end_returns, more_returns, then_returns, made_returns}
-use Rattle.no_reinstr.proofs.Within.{Within}
+use Rattle.no_reinstr.proofs.Returning.{Returns, ending, starting, given, pieces_are, yes_returns, no_returns, end_returns, more_returns, then_returns, made_returns}
 use Rattle.no_reinstr.proofs.Works.{InstrBack, instr_back}
 
 module _ (m : Meaning) (text : List ℕ) (bytes : AreBytes m.text) (fit : TypesFit m.types) (last : Locals) (role : Role) where
@@ -162,20 +161,13 @@ module _ (m : Meaning) (text : List ℕ) (bytes : AreBytes m.text) (fit : TypesF
 
 -- ---- at the end of the first text's function
 
-whole_names : (t : Locals) → Holds t t
+whole_names : (t : Locals) → Follows t t
 whole_names t = record { registers = record { rest = []; is = sym (append-nil t.registers) }; labels = record { rest = []; is = sym (append-nil t.labels) } }
 
-pub record BodyAgain (m : Meaning) (text : List ℕ) (role : Role) (all : List Block) (s t z : Locals) : Type 0 where
-  pub registers : Within s.registers t.registers
-  pub labels : Within s.labels t.labels
-  pub end : Locals
-  pub like : Like t end
-  pub spells : Spells text (body text (an_instr (over m text) role)) z (blocks_pieces (spelled_by m) (named_by t) all ++ sign lined (codes "}")) all end
-
 pub body_again : (m : Meaning) (text : List ℕ) (role : Role) (s t z : Locals) (tokens : List Token) (all : List Block) → AreBytes m.text → TypesFit m.types → IsFine s → Like s z
-    → (body m.text (an_instr m role)).means s tokens all t → BodyAgain m text role all s t z
+    → (body m.text (an_instr m role)).means s tokens all t
+    → Follows s t × (u : Locals) × Like t u × Spells text (body text (an_instr (over m text) role)) z (blocks_pieces (spelled_by m) (named_by t) all ++ sign lined (codes "}")) all u
 body_again m text role s t z tokens all bytes fit fine like r =
     let x = body_returns m text bytes fit t role s t tokens all r in
-    let h = x.holds (whole_names t) in
     let y = x.spells fine (whole_names t) z like in
-    record { registers = h.registers; labels = h.labels; end = y.0; like = y.1; spells = y.2 }
+    (x.holds (whole_names t), y.0, y.1, y.2)
