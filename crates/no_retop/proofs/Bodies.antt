@@ -9,8 +9,8 @@ use Rattle.no_instr.specs.Instructions.{an_instr}
 use Rattle.no_locals.specs.declared.locals.Locals.{Locals}
 use Rattle.no_print.specs.Modules.{blocks_pieces}
 use Rattle.no_print.specs.Pieces.{lined, sign}
-use Rattle.no_reinstr.specs.States.{Like, IsFine, named_by}
-use Rattle.no_reinstr.proofs.Returning.{Holds, Returns}
+use Rattle.no_reinstr.specs.States.{Like, Follows, IsFine, named_by}
+use Rattle.no_reinstr.proofs.Returning.{Returns}
 use Rattle.no_reread.specs.Spells.{over, spelled_by}
 
 -- states of the same names, of which the first has bytes
@@ -18,9 +18,9 @@ pub record Alike (s z : Locals) : Type 0 where
   pub like : Like s z
   pub fine : IsFine s
 
--- the last state has its own names
-pub holds_self : (t : Locals) → Holds t t
-holds_self t = record { registers = record { rest = []; is = sym (append-nil t.registers) }; labels = record { rest = []; is = sym (append-nil t.labels) } }
+-- a state has its own names
+pub follows_self : (t : Locals) → Follows t t
+follows_self t = record { registers = record { rest = []; is = sym (append-nil t.registers) }; labels = record { rest = []; is = sym (append-nil t.labels) } }
 
 -- a body is spelled with the names that it ends with
 abbrev pub BodyBack : Meaning → List ℕ → Role → Type 0

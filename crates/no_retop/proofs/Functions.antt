@@ -27,11 +27,11 @@ use Rattle.no_print.specs.Constants.{Spelled, type_at}
 use Rattle.no_print.specs.Modules.{bound_pieces, address_pieces, type_alone, param_pieces, blocks_pieces, locals_of}
 use Rattle.no_print.specs.Names.{global_name}
 use Rattle.no_print.specs.Pieces.{Piece, glued, spaced, lined, sign, with_commas}
-use Rattle.no_reinstr.proofs.Returning.{Holds}
+use Rattle.no_reinstr.specs.States.{Follows}
 use Rattle.no_reread.specs.Spells.{AreBytes, Spells, over, spelled_by}
 use Rattle.no_reread.proofs.Frame.{then_spells, made_spells}
 use Rattle.no_reread.proofs.Opening.{kept_state}
-use Rattle.no_retop.proofs.Bodies.{Alike, holds_self, BodyBack}
+use Rattle.no_retop.proofs.Bodies.{Alike, follows_self, BodyBack}
 use Rattle.no_retop.proofs.Heads.{rest_of, again_head, head_again}
 use Rattle.no_retop.proofs.Marks.{MayStand, bound_marks, address_marks}
 use Rattle.no_retop.proofs.Params.{declared_again, defined_again}
@@ -126,8 +126,8 @@ module _ (m : Meaning) (text : List ℕ) (role : Role) (bytes : AreBytes m.text)
         → FunctionAgain text (a_function (over m text) role) (named_rest (set_function st (record { head = h; blocks = bs; names = t }))) (set_function st (record { head = h; blocks = bs; names = t }))
     built h s t front back bs k l st may =
         let r = back_again s t back bs l in
-        let x = head_again m text sp role bytes typed true Alike (Holds t) (param_pieces sp t.registers) (defined_again m text sp typed bytes t) no_locals no_locals s front h like_none k (r.holds (holds_self t)) st.bound st.address may in
-        let y = r.spells x.like.fine (holds_self t) x.state x.like.like in
+        let x = head_again m text sp role bytes typed true Alike (λ s. Follows s t) (param_pieces sp t.registers) (defined_again m text sp typed bytes t) no_locals no_locals s front h like_none k (r.holds (follows_self t)) st.bound st.address may in
+        let y = r.spells x.like.fine (follows_self t) x.state x.like.like in
         let head : Head = again_head h st.bound st.address in
         record {
           again = record { head = head; blocks = bs; names = y.0 };

@@ -30,7 +30,7 @@ use Rattle.no_print.specs.Names.{global_name, spelling}
 use Rattle.no_print.specs.Pieces.{Piece, glued, spaced, lined, parted, piece, word, sign, with_commas}
 use Rattle.no_print.specs.Stand.{Stand}
 use Rattle.no_reread.specs.Spells.{AreBytes, TypeFits, TypesFit, Spells, over, spelled_by}
-use Rattle.no_reinstr.proofs.Bodies.{body_returns}
+use Rattle.no_reinstr.proofs.BodyAgain.{body_returns}
 use Rattle.no_reread.proofs.ConstsAgain.{const_again}
 use Rattle.no_reread.proofs.Frame.{done_spells, made_spells, lift_spells, yes_spells, no_spells}
 use Rattle.no_reread.proofs.Listing.{repeat_end, repeat_more}

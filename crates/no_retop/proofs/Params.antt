@@ -23,8 +23,9 @@ use Rattle.no_reread.proofs.Opening.{Opens, kept_state, then_opens, lift_opens}
 use Rattle.no_reread.proofs.Skipping.{change_spells, some_spells, none_spells}
 use Rattle.no_reread.proofs.Standing.{stand_none, begins, kind_tested}
 use Rattle.no_reread.proofs.TypesAgain.{type_opens}
+use Rattle.no_reinstr.specs.States.{Follows}
 use Rattle.no_reinstr.proofs.Registers.{definition_again, no_name_again}
-use Rattle.no_reinstr.proofs.Returning.{Holds, Returns}
+use Rattle.no_reinstr.proofs.Returning.{Returns}
 use Rattle.no_retop.proofs.Bodies.{Alike}
 use Rattle.no_retop.proofs.Steps.{Twice, sign_then}
 use Rattle.no_retop.proofs.Within.{items_within}
@@ -172,15 +173,15 @@ module _ (m : Meaning) (text : List ℕ) (sp : Spelled) (typed : (gap : List ℕ
               (y.0, y.1, param_spells (over m text) true z y.0 (type_at sp gap a.1) (local_name spaced (name_at last.registers a.0)) a.0 a.1 (typed gap p.used a.1 p.typed) y.2);
         }
 
-    named_before : (s t : Locals) (tokens : List Token) (a : ℕ × Ty) → (a_param m true).means s tokens a t → Holds last t → Holds last s
+    named_before : (s t : Locals) (tokens : List Token) (a : ℕ × Ty) → (a_param m true).means s tokens a t → Follows t last → Follows s last
     named_before s t tokens a k w = (named_param spaced s t tokens a k).holds w
 
-    named_again : (gap : List ℕ) (s z t : Locals) (tokens : List Token) (a : ℕ × Ty) → Alike s z → (a_param m true).means s tokens a t → Holds last t
+    named_again : (gap : List ℕ) (s z t : Locals) (tokens : List Token) (a : ℕ × Ty) → Alike s z → (a_param m true).means s tokens a t → Follows t last
         → (u : Locals) × Alike t u × Spells text (a_param (over m text) true) z (param_pieces sp last.registers gap a) a u
     named_again gap s z t tokens a alike k w =
         let x = named_param gap s t tokens a k in
         let y = x.spells alike.fine w z alike.like in
         (y.0, record { like = y.1; fine = x.fine alike.fine }, y.2)
 
-    pub defined_again : ParamsAgain m text true Alike (Holds last) (param_pieces sp last.registers)
-    defined_again = params_by true Alike (Holds last) (param_pieces sp last.registers) named_before named_again
+    pub defined_again : ParamsAgain m text true Alike (λ s. Follows s last) (param_pieces sp last.registers)
+    defined_again = params_by true Alike (λ s. Follows s last) (param_pieces sp last.registers) named_before named_again
