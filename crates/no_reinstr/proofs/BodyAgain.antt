@@ -153,7 +153,7 @@ module _ (m : Meaning) (text : List ℕ) (bytes : AreBytes m.text) (fit : TypesF
         (whole label (piece.Instr i.first ∷ pieces) (no_block_label_again m.text text bytes last lined s k.1.between k.1.front label k.1.in_front)
           (pieces_are (sym (append_assoc (instr_shown i.first) (all_shown pieces) close)) (more_returns one (pieces_back u t back pieces r))))
 
-  body_returns : (s t : Locals) (tokens : List Token) (all : List Block) → (body m.text (an_instr m role)).means s tokens all t → Shown all s t
+  pub body_returns : (s t : Locals) (tokens : List Token) (all : List Block) → (body m.text (an_instr m role)).means s tokens all t → Shown all s t
   unfolding body
   body_returns s t tokens all r =
       let x = r.in_back in

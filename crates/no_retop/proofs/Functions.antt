@@ -27,13 +27,14 @@ use Rattle.no_print.specs.Constants.{Spelled, type_at}
 use Rattle.no_print.specs.Modules.{bound_pieces, address_pieces, type_alone, param_pieces, blocks_pieces, locals_of}
 use Rattle.no_print.specs.Names.{global_name}
 use Rattle.no_print.specs.Pieces.{Piece, glued, spaced, lined, sign, with_commas}
-use Rattle.no_reread.specs.Spells.{AreBytes, Spells, over}
+use Rattle.no_reinstr.specs.States.{Follows}
+use Rattle.no_reread.specs.Spells.{AreBytes, Spells, over, spelled_by}
 use Rattle.no_reread.proofs.Frame.{then_spells, made_spells}
 use Rattle.no_reread.proofs.Opening.{kept_state}
-use Rattle.no_retop.specs.Bodies.{Like, BodyGrows, BodyAgain}
+use Rattle.no_retop.proofs.Bodies.{Alike, follows_self, BodyBack}
 use Rattle.no_retop.proofs.Heads.{rest_of, again_head, head_again}
 use Rattle.no_retop.proofs.Marks.{MayStand, bound_marks, address_marks}
-use Rattle.no_retop.proofs.Params.{Within, declared_again, defined_again}
+use Rattle.no_retop.proofs.Params.{declared_again, defined_again}
 use Rattle.no_retop.proofs.Steps.{Twice, sign_then}
 use Rattle.no_tops.specs.Tops.{inside, a_declaration}
 
@@ -74,10 +75,13 @@ pub record FunctionAgain (text : List ℕ) (p : Rule (Unit {0}) Written) (pieces
   pub is : (groups : List ℕ → Settings) → function_of text groups again ≡ f
   pub spells : Spells text p tt pieces again tt
 
-like_none : Like no_locals no_locals
-like_none = record { registers = refl; labels = refl; register_names = tt; label_names = tt; counter = (omega arith, tt) }
+like_none : Alike no_locals no_locals
+like_none = record { like = record { registers = refl; labels = refl }; fine = record { registers = tt; labels = tt; counter = (omega arith, tt) } }
 
-module _ (m : Meaning) (text : List ℕ) (sp : Spelled) (role : Role) (bytes : AreBytes m.text) (typed : (gap : List ℕ) → Twice text (a_type m 64) (a_type (over m text) 64) (type_at sp gap)) where
+module _ (m : Meaning) (text : List ℕ) (role : Role) (bytes : AreBytes m.text) (typed : (gap : List ℕ) → Twice text (a_type m 64) (a_type (over m text) 64) (type_at (spelled_by m) gap)) where
+  abbrev sp : Spelled
+  sp = spelled_by m
+
   -- ---- declared
 
   abbrev alone_rest : Function → List Piece
@@ -97,7 +101,7 @@ module _ (m : Meaning) (text : List ℕ) (sp : Spelled) (role : Role) (bytes : A
 
   -- ---- defined
 
-  module _ (grows : BodyGrows m role) (again : BodyAgain m text role sp) where
+  module _ (back_again : BodyBack m text role) where
     abbrev body_rest : Function → List Piece
     body_rest f = sign spaced (codes "{") ++ (blocks_pieces sp (locals_of f) f.blocks ++ sign lined (codes "}"))
 
@@ -121,13 +125,14 @@ module _ (m : Meaning) (text : List ℕ) (sp : Spelled) (role : Role) (bytes : A
     built : (h : Head) (s t : Locals) (front back : List Token) (bs : List Block) → (a_head m role true).means no_locals front h s → (body m.text (an_instr m role)).means s back bs t → (st : Settings) → MayStand role st.address
         → FunctionAgain text (a_function (over m text) role) (named_rest (set_function st (record { head = h; blocks = bs; names = t }))) (set_function st (record { head = h; blocks = bs; names = t }))
     built h s t front back bs k l st may =
-        let x = head_again m text sp role bytes typed true Like (Within t.registers) (param_pieces sp t.registers) (defined_again m text sp typed bytes t.registers) no_locals no_locals s front h like_none k (grows s t back bs l) st.bound st.address may in
-        let y = again s x.state t back bs x.like l in
+        let r = back_again s t back bs l in
+        let x = head_again m text sp role bytes typed true Alike (λ s. Follows s t) (param_pieces sp t.registers) (defined_again m text sp typed bytes t) no_locals no_locals s front h like_none k (r.holds (follows_self t)) st.bound st.address may in
+        let y = r.spells x.like.fine (follows_self t) x.state x.like.like in
         let head : Head = again_head h st.bound st.address in
         record {
           again = record { head = head; blocks = bs; names = y.0 };
           is = λ groups. ap (λ (s : Settings). set_function s (record { head = head; blocks = bs; names = y.0 })) (set_again text groups st.bound st.address)
-              ∙ function_same st h (bound_marks st.bound ++ address_marks st.address) bs t y.0 (sym y.1.registers) (sym y.1.labels);
+              ∙ function_same st h (bound_marks st.bound ++ address_marks st.address) bs t y.0 y.1.registers y.1.labels;
           spells = function_spells head bs x.state y.0 (rest_of sp (param_pieces sp t.registers) h st.bound st.address) (blocks_pieces sp (record { registers = t.registers; labels = t.labels }) bs ++ sign lined (codes "}")) x.spells y.2;
         }
 

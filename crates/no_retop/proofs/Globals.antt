@@ -1,5 +1,5 @@
 -- A global variable is read again.
-use Rattle.std.proofs.Common.{◌≡◌, ℕ, Bool, true, false, ◌&&◌, ◌||◌, ◌==◌, List, [], ◌++◌, codes, bytes_eq, Option, Result, Ok, Err, if◌then◌else◌, refl, sym, subst, ◌∙◌}
+use Rattle.std.proofs.Common.{◌≡◌, ℕ, Bool, true, false, ◌&&◌, ◌||◌, ◌==◌, List, ◌++◌, codes, bytes_eq, Option, Result, Ok, Err, if◌then◌else◌, refl, sym, subst, ◌∙◌}
 use Rattle.no_lex.specs.declared.token.TokenKind.{TokenKind}
 use Rattle.no_lex.specs.declared.token.TokenKind.TheVariants as kind
 use Rattle.no_ir.specs.declared.constant.Const.{Const}
@@ -23,6 +23,7 @@ use Rattle.no_print.specs.Pieces.{Piece, spaced, lined, word}
 use Rattle.no_reread.specs.Spells.{AreBytes, TypeFits, Spells, over}
 use Rattle.no_reread.proofs.ConstFirst.{read_fits}
 use Rattle.no_reread.proofs.Frame.{plain_spells, then_spells, made_spells}
+use Rattle.no_reread.proofs.Skipping.{behind_spells}
 use Rattle.no_reread.proofs.Standing.{begins}
 use Rattle.no_retop.proofs.Steps.{Twice, tested, sign_then, symbol_spells, symbol_bytes}
 use Rattle.no_retop.proofs.Tails.{tails_again}
@@ -48,14 +49,10 @@ module _ (text : List ℕ) where
   is_constant false = refl
 
   kind_spells : (b : Bool) → Spells {S = Unit {0}} text (behind (is_idle text) (plain (constant_of text))) tt (word spaced (kind_word b)) b tt
-  kind_spells b tokens stand = record {
-    front = [];
-    back = tokens;
-    parts = refl;
-    pass = refl;
-    stops = begins text (is_idle text) false (word spaced (kind_word b)) (λ token h. tested text idle_by token (kind_piece b) h ∙ not_idle b) tokens stand;
-    read = plain_spells text constant_by tt (kind_piece b) b (is_constant b) tokens stand;
-  }
+  kind_spells b =
+      behind_spells text (is_idle text) (plain (constant_of text)) tt (word spaced (kind_word b)) b tt
+      (begins text (is_idle text) false (word spaced (kind_word b)) (λ token h. tested text idle_by token (kind_piece b) h ∙ not_idle b))
+      (plain_spells text constant_by tt (kind_piece b) b (is_constant b))
 
 module _ (m : Meaning) (text : List ℕ) (s : Spelled) (bytes : AreBytes m.text)
     (typed : (gap : List ℕ) → Twice text (a_type m 64) (a_type (over m text) 64) (type_at s gap))

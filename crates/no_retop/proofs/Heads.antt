@@ -1,15 +1,17 @@
 -- What stands before the blocks of a function is read again.
-use Rattle.std.proofs.Common.{◌≡◌, ℕ, Bool, true, false, List, [], ◌++◌, codes, Option, inl, inr, refl, sym, ap, subst, ◌∙◌, append_assoc}
+use Rattle.std.proofs.Common.{◌≡◌, ℕ, Bool, true, false, ◌&&◌, ◌==◌, List, [], ◌++◌, codes, bytes_eq, Option, inl, inr, refl, sym, ap, subst, ◌∙◌, append_assoc}
+use Rattle.std.proofs.lemmas.Slice.Eq.{bytes_eq-Decides}
 use Rattle.no_ir.specs.declared.function.Role.{Role}
 use Rattle.no_ir.specs.declared.types.Ty.{Ty}
 use Rattle.no_ir.specs.declared.types.Ty.TheVariants as ty
 use Rattle.no_lex.specs.declared.token.Token.{Token}
+use Rattle.no_lex.specs.declared.token.TokenKind.{TokenKind}
 use Rattle.no_lex.specs.declared.token.TokenKind.TheVariants as kind
 use Rattle.no_grammar.specs.Rules.{plain, done, ◌>>=◌, lift}
 use Rattle.no_grammar.specs.Scope.{Meaning}
-use Rattle.no_grammar.specs.Spelled.{is_word, only_where, a_word}
+use Rattle.no_grammar.specs.Spelled.{spelled, kind_number, is_word, only_where, a_word}
 use Rattle.no_grammar.specs.Types.{a_type}
-use Rattle.no_attrs.specs.Attributes.{begins_attribute, attribute_marks}
+use Rattle.no_attrs.specs.Attributes.{begins_by, begins_attribute, attribute_marks}
 use Rattle.no_globals.specs.Globals.{symbol_name}
 use Rattle.no_heads.specs.declared.heads.Head.{Head}
 use Rattle.no_heads.specs.Heads.{params, result_type, words_type, head_marks, a_head}
@@ -24,10 +26,32 @@ use Rattle.no_reread.proofs.Listing.{word_spells}
 use Rattle.no_reread.proofs.Opening.{Opens, begins_alone, plain_opens, then_opens, if_next_opens}
 use Rattle.no_reread.proofs.Standing.{begins, word_tested}
 use Rattle.no_reread.proofs.TypePieces.{void_pieces}
+use Rattle.no_reinstr.proofs.Beginnings.{OtherWord, type_no_word, type_no_attribute}
 use Rattle.no_retop.proofs.Marks.{MayStand, AllSet, read_may, bound_marks, address_marks, marks_spell}
-use Rattle.no_retop.proofs.Openings.{type_no_attribute, type_no_void, void_no_attribute}
 use Rattle.no_retop.proofs.Params.{ParamsAgain}
 use Rattle.no_retop.proofs.Steps.{Twice, given_holds, symbol_spells, symbol_bytes}
+
+-- ---- the word of no type
+
+other_word : OtherWord (codes "void")
+other_word = record { one = refl; byte = refl; short = refl; half = refl; full = refl; pointer = refl }
+
+void_by : (k : TokenKind) (bytes : List ℕ) → ((kind_number k == 0) && bytes_eq bytes (codes "void")) ≡ true → begins_by k bytes ≡ false
+void_by kind.Word bytes e = let is : bytes_eq bytes (codes "void") ≡ true = e in subst (λ b. begins_by kind.Word b ≡ false) (sym ((bytes_eq-Decides bytes (codes "void")).0 is)) refl
+void_by kind.Sign bytes e = refl
+void_by kind.Local bytes e = refl
+void_by kind.Integer bytes e = refl
+void_by kind.Global bytes e = refl
+void_by kind.Meta bytes e = refl
+void_by kind.CMark bytes e = refl
+void_by kind.Label bytes e = refl
+void_by kind.Group bytes e = absurd cc
+void_by kind.Quoted bytes e = absurd cc
+
+void_no_attribute : (text : List ℕ) (token : Token) → is_word text (codes "void") token ≡ true → begins_attribute text token ≡ false
+void_no_attribute text token e = void_by token.kind (spelled text token) e
+
+-- ---- heads
 
 -- what stands behind the first word, with these attributes
 abbrev pub rest_of : Spelled → (List ℕ → ℕ × Ty → List Piece) → Head → Bool → Option ℕ → List Piece
@@ -60,7 +84,7 @@ module _ (m : Meaning) (text : List ℕ) (sp : Spelled) (role : Role) (bytes : A
   result_again gap tokens t (inr k) =
       let x = typed gap tokens t k.1 in
       no_spells text (is_word text (codes "void")) (a_word text (codes "void") >>= λ _. done ty.Void) (a_type (over m text) 64) tt (type_at sp gap t) t tt
-      (begins_alone text (is_word text (codes "void")) false (a_type (over m text) 64) (type_no_void (over m text) 64) tt tt t (type_at sp gap t) x) x
+      (begins_alone text (is_word text (codes "void")) false (a_type (over m text) 64) (type_no_word (over m text) 64 (codes "void") other_word) tt tt t (type_at sp gap t) x) x
 
   result_opens : Opens (begins_attribute text) false (result_type (over m text))
   unfolding result_type

@@ -1,12 +1,11 @@
 pub mod Amounts
-pub mod Counts
+pub mod Bodies
 pub mod Forms
 pub mod Functions
 pub mod Globals
 pub mod Heads
 pub mod Marks
 pub mod Modules
-pub mod Openings
 pub mod Params
 pub mod Steps
 pub mod Tails

@@ -30,12 +30,13 @@ use Rattle.no_print.specs.Names.{global_name, spelling}
 use Rattle.no_print.specs.Pieces.{Piece, glued, spaced, lined, parted, piece, word, sign, with_commas}
 use Rattle.no_print.specs.Stand.{Stand}
 use Rattle.no_reread.specs.Spells.{AreBytes, TypeFits, TypesFit, Spells, over, spelled_by}
+use Rattle.no_reinstr.proofs.BodyAgain.{body_returns}
 use Rattle.no_reread.proofs.ConstsAgain.{const_again}
 use Rattle.no_reread.proofs.Frame.{done_spells, made_spells, lift_spells, yes_spells, no_spells}
 use Rattle.no_reread.proofs.Listing.{repeat_end, repeat_more}
 use Rattle.no_reread.proofs.Standing.{begins, begins_none}
 use Rattle.no_reread.proofs.TypesAgain.{type_again}
-use Rattle.no_retop.specs.Bodies.{BodyGrows, BodyAgain}
+use Rattle.no_retop.proofs.Bodies.{BodyBack}
 use Rattle.no_retop.specs.Printed.{form_pieces}
 use Rattle.no_retop.proofs.Forms.{WasRead, FormsRead, settings_may, layout_bytes, forms_read}
 use Rattle.no_retop.proofs.Functions.{FunctionAgain, declaration_again, function_again}
@@ -112,7 +113,7 @@ module _ (m : Meaning) (text : List ℕ) (role : Role) where
   module _ (bytes : AreBytes m.text)
       (typed : (gap : List ℕ) → Twice text (a_type m 64) (a_type (over m text) 64) (type_at (spelled_by m) gap))
       (consts : (t : Ty) → TypeFits t → (gap : List ℕ) → Twice text (a_const m 64 t) (a_const (over m text) 64 t) (λ c. const_pieces (spelled_by m) c t gap))
-      (grows : BodyGrows m role) (again : BodyAgain m text role (spelled_by m)) where
+      (back_again : BodyBack m text role) where
     abbrev sp : Spelled
     sp = spelled_by m
 
@@ -149,12 +150,12 @@ module _ (m : Meaning) (text : List ℕ) (role : Role) where
 
     form_again : (w : Written) → WasRead m role w → (st : Settings) → MayStand role st.address → FormAgain (function_pieces sp (set_function st w)) (set_function st w)
     form_again w (inl r) st may =
-        let x = function_again m text sp role bytes typed grows again r.0 w r.1 st may in
+        let x = function_again m text role bytes typed back_again r.0 w r.1 st may in
         let f = set_function st w in
         subst (λ (l : List Piece). FormAgain l f) (defined_are sp f ∙ sym (ap (function_by sp f) x.some.is)) (defined_form _ f x.function)
     form_again w (inr r) st may =
         subst (λ (w : Written). FormAgain (function_pieces sp (set_function st w)) (set_function st w)) r.3
-        (let f = set_function st (declared r.1) in subst (λ (l : List Piece). FormAgain l f) (declared_are sp f) (declared_form _ f (declaration_again m text sp role bytes typed r.0 r.1 r.2 st may)))
+        (let f = set_function st (declared r.1) in subst (λ (l : List Piece). FormAgain l f) (declared_are sp f) (declared_form _ f (declaration_again m text role bytes typed r.0 r.1 r.2 st may)))
 
     module _ (groups : List ℕ → Settings) where
       one_function : (w : Written) (back : List Piece) (fs : List Function) → FormAgain (function_pieces sp (function_of m.text groups w)) (function_of m.text groups w)
@@ -243,10 +244,11 @@ module _ (m : Meaning) (text : List ℕ) (role : Role) where
           subst (λ (f : Module). IsModuleOf (over m text) role types others f) (sym k.is)
           (forms_again k.forms (forms_read m role bytes false k.stated tokens k.forms k.meant) others (subst (λ (f : Module). Stand text others (form_pieces sp f)) k.is stand))
 
-pub law : (m : Meaning) (text : List ℕ) (role : Role) (types : List (List ℕ × Ty)) (tokens others : List Token) (found : Module) → AreBytes m.text → TypesFit m.types → BodyGrows m role → BodyAgain m text role (spelled_by m)
+pub law : (m : Meaning) (text : List ℕ) (role : Role) (types : List (List ℕ × Ty)) (tokens others : List Token) (found : Module) → AreBytes m.text → TypesFit m.types
     → IsModuleOf m role types tokens found → Stand text others (form_pieces (spelled_by m) found) → IsModuleOf (over m text) role types others found
-law m text role types tokens others found bytes fit grows again k stand =
+law m text role types tokens others found bytes fit k stand =
     modules_again m text role bytes
     (λ gap used t r. (type_again m text bytes 64 gap tt tt tt used t tt r).2)
     (λ t fits gap used c r. const_again m text bytes fit 64 t fits gap used c r)
-    grows again types tokens others found k stand
+    (λ s t used bs r. body_returns m text bytes fit t role s t used bs r)
+    types tokens others found k stand

@@ -10,12 +10,10 @@ ghost use Rattle.no_grammar.specs.Scope.{Meaning};
 ghost use Rattle.no_modules.specs.Modules.{IsModuleOf};
 ghost use Rattle.no_print.specs.Stand.{Stand};
 ghost use Rattle.no_reread.specs.Spells.{AreBytes, TypesFit, over, spelled_by};
-ghost use Rattle.no_retop.specs.Bodies.{BodyGrows, BodyAgain};
 ghost use Rattle.no_retop.specs.Printed.{form_pieces};
 
 /// A module that was read from a text of bytes is read again in the same role from any other text whose tokens stand as the
-/// module's layout, globals and functions are spelled, where the names of types, globals and functions mean the same; given
-/// that the bodies of its functions are read again.
+/// module's layout, globals and functions are spelled, where the names of types, globals and functions mean the same.
 pub fn modules_mean_again()
-    ensures { (m : Meaning) (text : List ℕ) (role : Role) (types : List (List ℕ × Ty)) (tokens others : List Token) (found : Module) → AreBytes m.text → TypesFit m.types → BodyGrows m role → BodyAgain m text role (spelled_by m) → IsModuleOf m role types tokens found → Stand text others (form_pieces (spelled_by m) found) → IsModuleOf (over m text) role types others found }
+    ensures { (m : Meaning) (text : List ℕ) (role : Role) (types : List (List ℕ × Ty)) (tokens others : List Token) (found : Module) → AreBytes m.text → TypesFit m.types → IsModuleOf m role types tokens found → Stand text others (form_pieces (spelled_by m) found) → IsModuleOf (over m text) role types others found }
 {}
