@@ -1,5 +1,5 @@
 -- What is loaded is what a text means, and it means one thing at most.
-use Rattle.std.proofs.Common.{◌≡◌, ℕ, List, refl, sym, ap, subst, ◌∙◌, Result, Ok, Err}
+use Rattle.std.proofs.Common.{◌≡◌, ℕ, List, refl, sym, ap, subst, ◌∙◌, Result, Ok, Err, inl, inr}
 use Rattle.no_ir.specs.declared.function.Module.{Module}
 use Rattle.no_ir.specs.declared.function.Role.TheVariants.{Source}
 use Rattle.no_lex.specs.declared.fault.LexError.{LexError}
@@ -14,7 +14,11 @@ use Rattle.no_lex.specs.Tokens.{Lexes}
 use Rattle.no_read.specs.declared.fault.ReadFault.{ReadFault}
 use Rattle.no_read.specs.Reading.{Reads}
 use Rattle.no_semantics.specs.Accepted.{Accepted}
-use Rattle.no_app.specs.Programs.{Loads, Means, MeansTokens, accepted_of, text_limit, unlexed, unread}
+use Rattle.no_verify.specs.Verdict.{IsVerdict}
+use Rattle.no_verify.specs.declared.fault.VerifyError.{VerifyError}
+use Rattle.no_verify.specs.declared.fault.VerifyError.TheVariants as verifying
+use Rattle.no_verify.proofs.Unique.{verdict_once}
+use Rattle.no_app.specs.Programs.{Loads, Means, MeansModule, MeansRead, MeansTokens, MeansVerdict, run_by_machine, text_limit, unaccepted, unlexed, unread}
 use Rattle.no_app.specs.declared.loading.Refused.{Refused}
 use Rattle.no_app.specs.declared.loading.Refused.TheVariants as refused
 use Rattle.no_app.specs.declared.outcome.ModuleFault.{ModuleFault}
@@ -29,16 +33,54 @@ loads_so P Q so (Ok a) p = so (Ok a) p
 loads_so P Q so (Err (refused.Bad fault)) p = so (Err fault) p
 loads_so P Q so (Err refused.NoMemory) p = tt
 
--- the tokens read to a module, and this was judged
-pub read_loads : (text : List ℕ) (tokens : List Token) (found : Result Module ReadFault) (r : Result Accepted Refused) → Reads text Source tokens found
-    → Loads r (λ x. x ≡ accepted_of found) → Loads r (MeansTokens text (Ok tokens))
-read_loads text tokens found r reads = loads_so (λ x. x ≡ accepted_of found) (MeansTokens text (Ok tokens)) (λ x e. (found, reads, e)) r
+-- ---- the verdict
 
-pub read_only : (text : List ℕ) (tokens : List Token) (found : Result Module ReadFault) (r : Result Accepted Refused)
-    → ((answer : Result Module ReadFault) → Reads text Source tokens answer → found ≡ answer)
-    → Loads r (λ x. x ≡ accepted_of found) → (answer : Answer) → MeansTokens text (Ok tokens) answer → Loads r (λ x. x ≡ answer)
-read_only text tokens found r only loads answer means =
-    loads_so (λ x. x ≡ accepted_of found) (λ x. x ≡ answer) (λ x e. e ∙ ap accepted_of (only means.0 means.1) ∙ sym means.2) r loads
+told_once : (v : Result Accepted VerifyError) (x y : Answer) → MeansVerdict v x → MeansVerdict v y → x ≡ y
+told_once (Ok a) x y p q = p ∙ sym q
+told_once (Err (verifying.Layout fault)) x y p q = p ∙ sym q
+told_once (Err (verifying.Fault fault)) x y p q = p ∙ sym q
+told_once (Err verifying.NoMemory) x y p q = absurd p
+
+-- a module means one thing
+means_once : (m : Module) (v : Result Accepted VerifyError) (x y : Answer) → IsVerdict m Source v → MeansVerdict v x → MeansModule m y → x ≡ y
+means_once m v x y is p other = elim (verdict_once m Source v other.verdict is other.judged_so) [
+  | inl memory ↦ absurd (subst (λ (w : Result Accepted VerifyError). MeansVerdict w x) memory p)
+  | inr more ↦ elim more [
+    | inl memory ↦ absurd (subst (λ (w : Result Accepted VerifyError). MeansVerdict w y) memory other.means)
+    | inr same ↦ told_once other.verdict x y (subst (λ (w : Result Accepted VerifyError). MeansVerdict w x) same p) other.means
+  ]
+]
+
+pub accepted_loads : (m : Module) (a : Accepted) (r : Result Accepted Refused) → IsVerdict m Source (Ok a) → Loads r (λ x. x ≡ run_by_machine a) → Loads r (MeansModule m)
+accepted_loads m a r is = loads_so (λ x. x ≡ run_by_machine a) (MeansModule m) (λ x e. record { verdict = Ok a; judged_so = is; means = e }) r
+
+pub accepted_only : (m : Module) (a : Accepted) (r : Result Accepted Refused) → IsVerdict m Source (Ok a) → Loads r (λ x. x ≡ run_by_machine a)
+    → (answer : Answer) → MeansModule m answer → Loads r (λ x. x ≡ answer)
+accepted_only m a r is loads answer means = loads_so (λ x. x ≡ run_by_machine a) (λ x. x ≡ answer) (λ x e. means_once m (Ok a) x answer is e means) r loads
+
+pub unaccepted_loads : (m : Module) (e : VerifyError) → IsVerdict m Source (Err e) → Loads (Err (unaccepted e)) (MeansModule m)
+unaccepted_loads m verifying.NoMemory is = tt
+unaccepted_loads m (verifying.Layout fault) is = record { verdict = Err (verifying.Layout fault); judged_so = is; means = refl }
+unaccepted_loads m (verifying.Fault fault) is = record { verdict = Err (verifying.Fault fault); judged_so = is; means = refl }
+
+pub unaccepted_only : (m : Module) (e : VerifyError) → IsVerdict m Source (Err e) → (answer : Answer) → MeansModule m answer → Loads (Err (unaccepted e)) (λ x. x ≡ answer)
+unaccepted_only m verifying.NoMemory is answer means = tt
+unaccepted_only m (verifying.Layout fault) is answer means = means_once m (Err (verifying.Layout fault)) (Err (modules.Layout fault)) answer is refl means
+unaccepted_only m (verifying.Fault fault) is answer means = means_once m (Err (verifying.Fault fault)) (Err (modules.Verify fault)) answer is refl means
+
+-- ---- the tokens read to a module, and this was judged
+
+pub read_loads : (text : List ℕ) (tokens : List Token) (m : Module) (r : Result Accepted Refused) → Reads text Source tokens (Ok m)
+    → Loads r (MeansModule m) → Loads r (MeansTokens text (Ok tokens))
+read_loads text tokens m r reads = loads_so (MeansModule m) (MeansTokens text (Ok tokens)) (λ x means. (Ok m, reads, means)) r
+
+means_read : (found other : Result Module ReadFault) (answer : Answer) → found ≡ other → MeansRead other answer → MeansRead found answer
+means_read found other answer same = subst (λ (f : Result Module ReadFault). MeansRead f answer) (sym same)
+
+pub read_only : (text : List ℕ) (tokens : List Token) (m : Module) (r : Result Accepted Refused)
+    → ((answer : Result Module ReadFault) → Reads text Source tokens answer → Ok m ≡ answer)
+    → ((answer : Answer) → MeansModule m answer → Loads r (λ x. x ≡ answer)) → (answer : Answer) → MeansTokens text (Ok tokens) answer → Loads r (λ x. x ≡ answer)
+read_only text tokens m r only loads answer means = loads answer (means_read (Ok m) means.0 answer (only means.0 means.1) means.2)
 
 -- the text parts into tokens, or has a fault
 pub text_loads : (text : List ℕ) (lexed : Result (List Token) LexFault) (r : Result Accepted Refused) → Lexes text_limit text lexed → Loads r (MeansTokens text lexed) → Loads r (Means text)
@@ -58,7 +100,7 @@ pub unread_only : (text : List ℕ) (tokens : List Token) (e : ReadError)
     → ((answer : Result Module ReadFault) → Reads text Source tokens answer → reads.Answers {A = Module} (Err e) (λ found. found ≡ answer))
     → (answer : Answer) → MeansTokens text (Ok tokens) answer → Loads (Err (unread e)) (λ x. x ≡ answer)
 unread_only text tokens reading.NoMemory only answer means = tt
-unread_only text tokens (reading.Fault fault) only answer means = ap accepted_of (only means.0 means.1) ∙ sym means.2
+unread_only text tokens (reading.Fault fault) only answer means = sym (means_read (Err fault) means.0 answer (only means.0 means.1) means.2)
 
 pub unlexed_loads : (text : List ℕ) (e : LexError) → tokens.Answers (Err e) (Lexes text_limit text) → Loads (Err (unlexed e)) (Means text)
 unlexed_loads text lexing.NoMemory l = tt

@@ -22,6 +22,8 @@ use Rattle.no_lex.specs.Faults.{kind_number}
 use Rattle.no_read.specs.Faults.{fault_number}
 use Rattle.no_read.specs.declared.fault.ReadFault.{ReadFault}
 use Rattle.no_read.specs.declared.fault.ReadFault.TheVariants as reads
+use Rattle.no_verify.specs.Kinds.{number_of}
+use Rattle.no_verify.specs.declared.fault.VerifyFault.{VerifyFault}
 
 -- ---- statuses and lines
 
@@ -50,10 +52,17 @@ layout_number layout.NoOrder = 1
 layout_number layout.BadWidth = 2
 layout_number layout.BadSpec = 3
 
+-- the kind of a verifier's fault, and the numbers of function, block and instruction
+abbrev pub verify_words : VerifyFault → List ℕ
+verify_words fault =
+    codes "verify " ++ decimal (number_of fault.kind) ++ codes " function " ++ decimal fault.function ++ codes " block " ++ decimal fault.block
+    ++ codes " place " ++ decimal fault.place
+
 abbrev pub module_words : ModuleFault → List ℕ
 module_words (modules.Lex fault) = codes "lex " ++ place_words (kind_number fault.kind) fault.at
 module_words (modules.Read fault) = codes "read " ++ place_words (fault_number fault) (place_of fault)
 module_words (modules.Layout fault) = codes "layout " ++ place_words (layout_number fault.kind) fault.at
+module_words (modules.Verify fault) = verify_words fault
 
 -- what stands between `nativeoff: ` and the line feed
 abbrev pub words_of : Outcome → List ℕ

@@ -67,7 +67,7 @@ fn op_word(op: &Op) -> &'static [u8]
     }
 }
 
-pub(crate) fn is_i32(ty: &Ty) -> bool
+fn is_i32(ty: &Ty) -> bool
     ensures { result ≡ is_i32 ty.now }
 {
     match ty {

@@ -5,6 +5,7 @@ use no_ir::{Bytes, Trap};
 use no_layout::LayoutFault;
 use no_lex::LexFault;
 use no_read::ReadFault;
+use no_verify::VerifyFault;
 
 /// What is wrong with a module's file: the first that stands here.
 #[derive(Debug, Drop)]
@@ -16,6 +17,8 @@ pub enum ModuleFault {
     Read(ReadFault),
     /// The data layout string is none.
     Layout(LayoutFault),
+    /// The verifier refuses the module.
+    Verify(VerifyFault),
 }
 
 /// How the program ends, in the order of the words that its last line has.

@@ -1,12 +1,13 @@
 ghost use Rattle.std.specs.Prelude.{◌≡◌, ℕ, ◌≤◌, ◌++◌, ◌⊎◌, OnOk, IfOk, decimal};
 ghost use Rattle.no_ports.specs.Meanings.{Rose};
-ghost use Rattle.no_app.specs.Outcomes.{line_of, words_of, module_words, place_of, place_words, layout_number, Tells, Becomes};
+ghost use Rattle.no_app.specs.Outcomes.{line_of, words_of, module_words, place_of, place_words, layout_number, verify_words, Tells, Becomes};
 
 use crate::outcome::{ModuleFault, Outcome};
 use no_ir::{NoMemory, Trap};
 use no_layout::LayoutKind;
 use no_ports::{GaveAll, Sink, give_all};
 use no_read::ReadFault;
+use no_verify::VerifyFault;
 use std::alloc::Global;
 
 /// Adds a number in decimal digits.
@@ -46,7 +47,22 @@ fn put_fault(out: &mut Vec<u8>, alloc: Global, fault: &ModuleFault) -> Result<()
             out.extend_from_slice(b"layout ")?;
             put_place(out, alloc, layout_number(fault.kind), fault.at)
         }
+        ModuleFault::Verify(fault) => put_verify(out, alloc, *fault),
     }
+}
+
+/// Adds the words of a verifier's fault: the number of its kind, and where it is.
+fn put_verify(out: &mut Vec<u8>, alloc: Global, fault: VerifyFault) -> Result<(), NoMemory>
+    ensures { OnOk result (out.new.items ≡ out.old.items ++ verify_words fault) }
+{
+    out.extend_from_slice(b"verify ")?;
+    put_number(out, alloc, u64::from(fault.kind.number()))?;
+    out.extend_from_slice(b" function ")?;
+    put_number(out, alloc, u64::from(fault.function))?;
+    out.extend_from_slice(b" block ")?;
+    put_number(out, alloc, u64::from(fault.block))?;
+    out.extend_from_slice(b" place ")?;
+    put_number(out, alloc, u64::from(fault.place))
 }
 
 /// Adds the number of a kind of fault, and its place.

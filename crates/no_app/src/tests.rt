@@ -13,6 +13,9 @@ use std::test::Fail;
 const NOTHING: &str =
     "target datalayout = \"E-p:32:32-i64:64\"\ndefine i32 @main() {\n  ret i32 0\n}\n";
 
+/// The same without a data layout line.
+const UNLAID: &str = "define i32 @main() {\n  ret i32 0\n}\n";
+
 /// A world in memory: one file `m.ll`, an empty input, an output and a stream of the last line.
 #[derive(Drop)]
 struct World {
@@ -147,6 +150,14 @@ fn word_lists(rt: HostRuntime) -> Result<(), Fail> {
         world.err.held(),
         b"nativeoff: the words are not a command's words\n".as_slice()
     );
+    let mut world = make_world(alloc, UNLAID, &NEVER)?;
+    let words = words(alloc, "local|m.ll")?;
+    let status = called::<Brand>(alloc, &words, &mut world, Blank::new(2));
+    assert_eq!(rt; status, 122);
+    assert_eq!(rt;
+        world.err.held(),
+        b"nativeoff: bad module layout 1 at 0\n".as_slice()
+    );
     Ok(())
 }
 
@@ -158,7 +169,7 @@ const LAYOUT: &str = "target datalayout = \"E-p:32:32-i64:64\"\n";
 const SUM: &str =
     "declare i32 @putchar(i32)\ndefine i32 @main() {\n  %a = add i32 60, 5\n  %b = call i32 @putchar(i32 %a)\n  ret i32 %b\n}\n";
 
-const PROGRAMS: [Case; 29] = [
+const PROGRAMS: [Case; 34] = [
     (SUM, "10", "A", "exited 65", 65),
     (SUM, "3", "A", "exited 65", 65),
     (SUM, "2", "A", "unfinished", 110),
@@ -301,7 +312,7 @@ const PROGRAMS: [Case; 29] = [
         "define i32 @main() {\n  %a = call i32 @putchar(i32 65)\n  ret i32 0\n}\n",
         "9",
         "",
-        "bad module read 2 at 0",
+        "bad module verify 1 function 0 block 0 place 0",
         122,
     ),
     (
@@ -329,7 +340,42 @@ const PROGRAMS: [Case; 29] = [
         "declare i32 @putchar(i32)\n",
         "9",
         "",
-        "bad module read 2 at 0",
+        "bad module verify 8 function 0 block 0 place 0",
+        122,
+    ),
+    (
+        "define i32 @main() {\n  %a = add i32 1, 2\n  ret i32 %a\n  ret i32 0\n}\n",
+        "9",
+        "",
+        "bad module verify 4 function 0 block 0 place 1",
+        122,
+    ),
+    (
+        "define i32 @f() {\n  ret i32 1\n}\ndefine i32 @main() {\n  br label %a\na:\n  %x = phi i32 [ 1, %a ]\n  ret i32 %x\n}\n",
+        "9",
+        "",
+        "bad module verify 5 function 1 block 1 place 0",
+        122,
+    ),
+    (
+        "define i32 @main() {\n  %c = icmp eq i32 1, 1\n  br i1 %c, label %a, label %b\na:\n  %x = add i32 1, 2\n  br label %b\nb:\n  ret i32 %x\n}\n",
+        "9",
+        "",
+        "bad module verify 6 function 0 block 2 place 0",
+        122,
+    ),
+    (
+        "define i32 @main() {\n  %a = call i32 @rand()\n  ret i32 %a\n}\ndeclare i32 @rand()\n",
+        "9",
+        "",
+        "bad module verify 7 function 1 block 0 place 0",
+        122,
+    ),
+    (
+        "define i32 @main() {\n  %a = add i32 1, 2\n  %p = alloca [268435457 x i8]\n  ret i32 %a\n}\n",
+        "9",
+        "",
+        "bad module verify 10 function 0 block 0 place 1",
         122,
     ),
 ];
@@ -491,7 +537,7 @@ const MEMORY: [MemoryCase; 29] = [
         "@a = global [33554433 x i8] zeroinitializer\ndefine i32 @main() {\n  ret i32 0\n}\n",
         "9",
         "",
-        "bad module read 2 at 0",
+        "bad module verify 9 function 0 block 0 place 0",
         122,
     ),
     (
@@ -499,7 +545,7 @@ const MEMORY: [MemoryCase; 29] = [
         "@a = global [20000000 x i8] zeroinitializer\n@b = global [20000000 x i8] zeroinitializer\ndefine i32 @main() {\n  ret i32 0\n}\n",
         "9",
         "",
-        "bad module read 2 at 0",
+        "bad module verify 9 function 0 block 0 place 0",
         122,
     ),
     (
@@ -507,7 +553,7 @@ const MEMORY: [MemoryCase; 29] = [
         "@a = constant [33554432 x i8] zeroinitializer\ndefine i32 @main() {\n  ret i32 0\n}\n",
         "9",
         "",
-        "bad module read 2 at 0",
+        "bad module verify 9 function 0 block 0 place 0",
         122,
     ),
     (
@@ -539,7 +585,7 @@ const MEMORY: [MemoryCase; 29] = [
         "@a = global i8 0\n@a = global i8 0\ndefine i32 @main() {\n  ret i32 0\n}\n",
         "9",
         "",
-        "bad module read 2 at 0",
+        "bad module verify 2 function 0 block 0 place 0",
         122,
     ),
     (
@@ -547,7 +593,7 @@ const MEMORY: [MemoryCase; 29] = [
         "@main = global i8 0\ndefine i32 @main() {\n  ret i32 0\n}\n",
         "9",
         "",
-        "bad module read 2 at 0",
+        "bad module verify 2 function 0 block 0 place 0",
         122,
     ),
     (
@@ -555,7 +601,7 @@ const MEMORY: [MemoryCase; 29] = [
         "define i32 @main() {\n  %a = zext i32 5 to i8\n  ret i32 0\n}\n",
         "9",
         "",
-        "bad module read 2 at 0",
+        "bad module verify 3 function 0 block 0 place 0",
         122,
     ),
     (
@@ -563,7 +609,7 @@ const MEMORY: [MemoryCase; 29] = [
         "define i32 @main() {\n  store i8 1, ptr @b\n  ret i32 0\n}\n",
         "9",
         "",
-        "bad module read 2 at 0",
+        "bad module verify 1 function 0 block 0 place 0",
         122,
     ),
     (

@@ -4,6 +4,3 @@
 mod blocks;
 
 pub use blocks::{Piece, at_most_one_body, blocks_are_exact, body};
-
-#[cfg(test)]
-mod tests;

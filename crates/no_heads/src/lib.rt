@@ -4,6 +4,3 @@
 mod heads;
 
 pub use heads::{Head, a_head, heads_are_exact};
-
-#[cfg(test)]
-mod tests;

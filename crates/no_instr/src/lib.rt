@@ -7,6 +7,3 @@ mod instructions;
 
 pub use heads::{Action, Giver, InstrHead};
 pub use instructions::{an_instr, at_most_one_instruction, instructions_are_exact};
-
-#[cfg(test)]
-mod tests;

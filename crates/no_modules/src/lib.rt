@@ -12,6 +12,3 @@ pub use groups::Settings;
 pub use laws::groups_are_written_out;
 pub use modules::{a_module, modules_are_exact};
 pub use tops::Top;
-
-#[cfg(test)]
-mod tests;

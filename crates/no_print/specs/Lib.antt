@@ -5,3 +5,6 @@ pub mod Names
 pub mod Pieces
 pub mod Types
 pub mod Stand
+pub mod Wrote
+pub mod Scopes
+pub mod Commas

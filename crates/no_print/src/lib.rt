@@ -1,17 +1,20 @@
 //! The one spelling of a module (docs/LANGUAGE.md, "Canonical text").
 #![tactic(auto)]
 
-ghost use Rattle.std.specs.Prelude.{◌≡◌, [], IfOk};
-ghost use Rattle.no_print.specs.Modules.{module_text};
-ghost use Rattle.no_print.specs.Stand.{Stand};
+mod constants;
+mod functions;
+mod names;
+mod numbers;
+mod operands;
+mod operations;
+mod output;
+mod places;
+mod printing;
+mod scope;
+mod types;
+mod words;
 
-use no_ir::{Module, NoMemory};
-use sqlite_items::Items;
-use std::alloc::Global;
+pub use printing::print;
 
-/// Nothing yet.
-pub fn nothing(alloc: Global, program: &Module) -> Result<Items<u8>, NoMemory>
-    ensures { IfOk result (λ text. text ≡ []) }
-{
-    Ok(Items::new(alloc))
-}
+#[cfg(test)]
+mod spellings;

@@ -1,6 +1,6 @@
 -- What is taken out of bytes is bytes.
-use Rattle.std.proofs.Common.{◌≡◌, ℕ, suc, zero, ◌+◌, ◌-◌, ◌*◌, ◌<◌, ◌≤◌, Bool, true, false, ◌&&◌, ◌||◌, List, [], ◌∷◌, ◌==◌, nat_le, length, take, drop, ◌⊎◌, inl, inr, if◌then◌else◌, refl, sym, ap, subst, ◌∙◌, arith}
-use Rattle.std.proofs.lemmas.Bool.{leb-true, le-leb, lt-leb}
+use Rattle.std.proofs.Common.{◌≡◌, ℕ, suc, ◌+◌, ◌-◌, ◌*◌, ◌<◌, Bool, true, false, ◌&&◌, ◌||◌, List, [], ◌∷◌, ◌==◌, nat_le, get_or, length, drop, ◌⊎◌, inl, inr, if◌then◌else◌, refl, arith}
+use Rattle.std.proofs.lemmas.Bool.{leb-true, lt-leb}
 use Rattle.no_lex.specs.declared.token.Token.{Token}
 use Rattle.no_grammar.specs.Spelled.{spelled}
 use Rattle.no_grammar.specs.Unescaped.{is_hex, hex_value, unescaped, inner, is_quoted, name_of}
@@ -72,3 +72,8 @@ bytes_name bytes h = by (is_quoted bytes)
 
 pub bytes_spelled : (text : List ℕ) (token : Token) → AreBytes text → AreBytes (spelled text token)
 bytes_spelled text token h = bytes_take (token.end - token.start) (drop token.start text) (bytes_drop token.start text h)
+
+-- bytes, from each of them
+pub bytes_each : (bytes : List ℕ) → ((k : ℕ) → k < length bytes → get_or bytes k 0 < 256) → AreBytes bytes
+bytes_each [] h = tt
+bytes_each (b ∷ bytes) h = (h 0 (omega arith), bytes_each bytes (λ k l. h (suc k) (omega arith)))

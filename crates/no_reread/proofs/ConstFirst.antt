@@ -1,5 +1,5 @@
 -- Whether a constant begins as a place does, and the types that are read at brackets.
-use Rattle.std.proofs.Common.{◌≡◌, ℕ, ◌<◌, ◌≤◌, Bool, true, false, ◌&&◌, ◌||◌, ◌==◌, List, [], ◌∷◌, codes, drop, bytes_eq, slice_get, unwrap_or, Option, Some, None, Result, Ok, Err, suc, zero, if◌then◌else◌, refl, sym, ap, subst, ◌∙◌}
+use Rattle.std.proofs.Common.{◌<◌, ◌≤◌, ◌≡◌, ℕ, Bool, true, false, ◌&&◌, ◌||◌, ◌==◌, List, [], ◌∷◌, codes, drop, bytes_eq, slice_get, unwrap_or, Result, Ok, Err, suc, zero, if◌then◌else◌, refl, sym, ap, subst, ◌∙◌}
 use Rattle.std.proofs.lemmas.Slice.Eq.{bytes_eq-Decides}
 use Rattle.no_lex.specs.declared.token.Token.{Token}
 use Rattle.no_lex.specs.declared.token.TokenKind.{TokenKind}
@@ -7,21 +7,20 @@ use Rattle.no_lex.specs.declared.token.TokenKind.TheVariants as kind
 use Rattle.no_ir.specs.declared.types.Ty.{Ty, out-Ty, roll-Ty}
 use Rattle.no_ir.specs.declared.types.Ty.TheOpen.{Ty-F}
 use Rattle.no_ir.specs.declared.types.Ty.TheVariants as ty
-use Rattle.no_ir.specs.declared.types.Ty.TheVariants.{rolls-Int, rolls-Ptr, rolls-Array, rolls-Struct, rolls-Named}
+use Rattle.no_ir.specs.declared.types.Ty.TheVariants.{rolls-Void, rolls-Int, rolls-Ptr, rolls-Array, rolls-Struct, rolls-Named}
 use Rattle.no_ir.specs.declared.types.Ty.TheViews.{out-roll-Ty}
-use Rattle.no_ir.specs.declared.constant.Symbol.{Symbol}
 use Rattle.no_grammar.specs.declared.fault.Flaw.{Flaw}
 use Rattle.no_grammar.specs.declared.fault.Flaw.TheVariants.{Syntax}
 use Rattle.no_grammar.specs.declared.types.TypeHead.{TypeHead}
 use Rattle.no_grammar.specs.declared.types.TypeHead.TheVariants as type_of
-use Rattle.no_grammar.specs.Rules.{Rule, plain, ◌>>=◌}
+use Rattle.no_grammar.specs.Rules.{Rule, plain}
 use Rattle.no_grammar.specs.Scope.{Meaning}
 use Rattle.no_grammar.specs.Spelled.{spelled, kind_number, is_kind, is_word}
 use Rattle.no_grammar.specs.Types.{type_head, leaf_of, array_parts, struct_parts, packed_parts, after_type_head, a_type}
 use Rattle.no_grammar.specs.Unescaped.{name_of}
-use Rattle.no_values.specs.Places.{symbol_of, symbol_named, bare_or, place_head, after_place_head, a_place, begins_place}
+use Rattle.no_values.specs.Places.{symbol_named, bare_or, place_head, after_place_head, a_place, begins_place}
 use Rattle.no_values.specs.declared.places.PlaceHead.{PlaceHead}
-use Rattle.no_values.specs.Constants.{named_in, resolved, shape_in, as_int, word_at, word_const, leaf_by, leaf_head, bracket_at, as_leaf, const_by, const_head}
+use Rattle.no_values.specs.Constants.{named_in, resolved, shape_in, as_int, word_const, leaf_by, leaf_head, bracket_at, as_leaf, const_by, const_head}
 use Rattle.no_values.specs.declared.constants.Shape.{Shape}
 use Rattle.no_values.specs.declared.constants.Shape.TheVariants as shape
 use Rattle.no_values.specs.declared.constants.LeafHead.{LeafHead}
@@ -212,3 +211,13 @@ module _ (m : Meaning) where
       by : (x : Ty-F Ty) → TypeFits (named_in t m.types x)
       by (Ty-F.Named n) = there_fits m.types n t all fits
       by _ = fits
+
+-- types that the text names by themselves
+pub int_fits : (w : ℕ) → 0 < w → w ≤ 64 → TypeFits (ty.Int w)
+int_fits w some most = fits_at (Ty-F.Int w) (ty.Int w) (ty.Int w) refl (rolls-Int w) (some, most)
+
+pub ptr_fits : TypeFits ty.Ptr
+ptr_fits = fits_at Ty-F.Ptr ty.Ptr ty.Ptr refl rolls-Ptr tt
+
+pub void_fits : TypeFits ty.Void
+void_fits = fits_at Ty-F.Void ty.Void ty.Void refl rolls-Void tt

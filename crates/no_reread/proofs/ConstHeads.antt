@@ -1,25 +1,20 @@
 -- What begins a constant is spelled again.
-use Rattle.std.proofs.Common.{◌≡◌, ℕ, zero, suc, ◌+◌, ◌*◌, ◌^◌, ◌<◌, ◌≤◌, Bool, true, false, ◌&&◌, ◌||◌, ◌==◌, List, [], ◌∷◌, ◌++◌, codes, bytes_eq, slice_get, unwrap_or, Option, Some, None, Result, Ok, Err, if◌then◌else◌, refl, sym, ap, subst, ◌∙◌, arith, pow_pos}
+use Rattle.std.proofs.Common.{◌≡◌, ℕ, zero, suc, ◌^◌, ◌<◌, ◌≤◌, Bool, true, false, ◌==◌, List, [], ◌∷◌, codes, bytes_eq, Result, Ok, Err, if◌then◌else◌, refl, sym, ap, subst, arith, pow_pos}
 use Rattle.std.specs.Fmt.{signed_decimal}
-use Rattle.std.proofs.lemmas.Bool.{eqb-true, eqb-false}
-use Rattle.std.proofs.lemmas.Slice.Eq.{bytes_eq-Decides}
-use Rattle.no_lex.specs.declared.token.Token.{Token}
+use Rattle.std.proofs.lemmas.Bool.{eqb-true}
 use Rattle.no_lex.specs.declared.token.TokenKind.{TokenKind}
 use Rattle.no_lex.specs.declared.token.TokenKind.TheVariants as kind
-use Rattle.no_ir.specs.declared.types.Ty.{Ty, out-Ty}
+use Rattle.no_ir.specs.declared.types.Ty.{Ty}
 use Rattle.no_ir.specs.declared.types.Ty.TheOpen.{Ty-F}
 use Rattle.no_grammar.specs.declared.fault.Flaw.{Flaw}
-use Rattle.no_grammar.specs.declared.fault.Flaw.TheVariants.{Syntax}
 use Rattle.no_grammar.specs.Numbers.{integer_at}
 use Rattle.no_grammar.specs.Rules.{plain}
-use Rattle.no_grammar.specs.Spelled.{spelled, kind_number, is_kind, is_word}
-use Rattle.no_values.specs.Places.{truth_at, begins_place}
-use Rattle.no_values.specs.Constants.{shape_in, zero_at, null_at, as_int, word_at, word_const, integer_in, leaf_by, leaf_head, bracket_at, as_leaf, const_by, const_head}
+use Rattle.no_values.specs.Places.{truth_at}
+use Rattle.no_values.specs.Constants.{shape_in, zero_at, null_at, as_int, word_at, word_const, integer_in, leaf_by, leaf_head, as_leaf, const_by, const_head}
 use Rattle.no_values.specs.declared.constants.Shape.{Shape}
 use Rattle.no_values.specs.declared.constants.Shape.TheVariants as shape
 use Rattle.no_values.specs.declared.constants.LeafHead.{LeafHead}
 use Rattle.no_values.specs.declared.constants.LeafHead.TheVariants as leaf
-use Rattle.no_values.specs.declared.constants.ConstHead.{ConstHead}
 use Rattle.no_values.specs.declared.constants.ConstHead.TheVariants as head
 use Rattle.no_print.specs.Pieces.{Piece, piece, word}
 use Rattle.no_print.specs.Names.{signed, truth, number}
@@ -217,4 +212,4 @@ pub bracket_spells : (text gap : List ℕ) (x : Ty-F Ty) (l : LeafHead) → Widt
 bracket_spells text gap x l fits h =
     let o = one_leaf x gap l fits h in
     subst (λ ps. Spells {S = Unit {0}} text (plain (const_head text (shape_in x))) tt ps (head.Leaf l) tt) (sym o.is)
-      (plain_spells {S = Unit {0}} text (const_by (shape_in x)) tt o.piece (head.Leaf l) (as_bracket (shape_in x) o.piece.kind o.piece.bytes l o.reads))
+    (plain_spells {S = Unit {0}} text (const_by (shape_in x)) tt o.piece (head.Leaf l) (as_bracket (shape_in x) o.piece.kind o.piece.bytes l o.reads))

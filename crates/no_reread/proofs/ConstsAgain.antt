@@ -1,5 +1,5 @@
 -- A constant that was read is read again where it is spelled.
-use Rattle.std.proofs.Common.{◌≡◌, ℕ, suc, zero, ◌<◌, ◌≤◌, ◌^◌, Bool, true, false, List, [], ◌∷◌, ◌++◌, map, codes, slice_get, unwrap_or, Option, Some, None, Result, Ok, Err, ◌⊎◌, inl, inr, if◌then◌else◌, refl, sym, ap, subst, ◌∙◌, append_assoc, append-nil, pow_mono, lt_of_lt_of_le, ◌==◌}
+use Rattle.std.proofs.Common.{◌≡◌, ℕ, suc, zero, ◌<◌, ◌≤◌, ◌^◌, Bool, true, false, List, [], ◌∷◌, ◌++◌, map, codes, Option, Some, None, Result, Ok, Err, ◌⊎◌, inl, inr, if◌then◌else◌, refl, sym, ap, subst, ◌∙◌, append_assoc, append-nil, pow_mono, lt_of_lt_of_le, ◌==◌}
 use Rattle.std.specs.Fmt.{signed_decimal}
 use Rattle.no_lex.specs.declared.token.Token.{Token}
 use Rattle.no_lex.specs.declared.token.TokenKind.TheVariants as kind
@@ -13,19 +13,19 @@ use Rattle.no_grammar.specs.declared.fault.Flaw.TheVariants.{Syntax}
 use Rattle.no_grammar.specs.Lists.{closes_list, items}
 use Rattle.no_grammar.specs.Rules.{Rule, plain, done, ◌>>=◌, checked, choose, if_next, IsSolid}
 use Rattle.no_grammar.specs.Scope.{Meaning}
-use Rattle.no_grammar.specs.Spelled.{spelled, kind_number, is_kind, is_sign, a_word, a_sign}
+use Rattle.no_grammar.specs.Spelled.{spelled, kind_number, is_kind, is_sign}
 use Rattle.no_grammar.specs.Types.{a_type, must_be, sign_type}
 use Rattle.no_grammar.specs.Unescaped.{unescaped, inner}
 use Rattle.no_grammar.proofs.Laws.{first_solid, checked_solid}
 use Rattle.no_grammar.proofs.TypeLaws.{type_solid}
 use Rattle.no_values.specs.Places.{width_of, number_at, number_by, a_place, begins_place}
-use Rattle.no_values.specs.Constants.{named_in, resolved, shape_in, shape_of, element_in, fields_in, leaf_by, leaf_head, const_by, const_head, text_of, ptr_to_int, int_to_ptr, after_leaf, address, member, past, next_field, end_or, more_fields, some_fields, no_fields, fields, array_const, struct_const, packed_const, after_head, flat_const, bracket_const, a_const}
+use Rattle.no_values.specs.Constants.{named_in, resolved, shape_in, shape_of, element_in, fields_in, leaf_head, const_by, const_head, text_of, ptr_to_int, int_to_ptr, after_leaf, address, member, next_field, end_or, more_fields, some_fields, no_fields, fields, array_const, struct_const, packed_const, after_head, flat_const, bracket_const, a_const}
 use Rattle.no_values.specs.declared.constants.LeafHead.{LeafHead}
 use Rattle.no_values.specs.declared.constants.LeafHead.TheVariants as leaf
 use Rattle.no_values.specs.declared.constants.ConstHead.{ConstHead}
 use Rattle.no_values.specs.declared.constants.ConstHead.TheVariants as head
 use Rattle.no_print.specs.Names.{quoted, string, signed, number, int_type}
-use Rattle.no_print.specs.Pieces.{Piece, glued, spaced, piece, word, sign, integer, comma, behind_commas, with_commas}
+use Rattle.no_print.specs.Pieces.{Piece, glued, spaced, word, sign, integer, comma, behind_commas, with_commas}
 use Rattle.no_print.specs.Types.{type_pieces, in_braces}
 use Rattle.no_print.specs.Constants.{place_pieces, int_as_address, address_as_int, typed, const_pieces}
 use Rattle.no_print.specs.Constants as print
@@ -34,16 +34,16 @@ use Rattle.no_reread.proofs.Bytes.{bytes_string, bytes_spelled}
 use Rattle.no_reread.proofs.ConstFirst.{place_opens, leaf_opens, bracket_opens, BracketAgain, bracket_again, leaf_under, read_fits, resolved_fits}
 use Rattle.no_reread.proofs.ConstHeads.{LeafAgain, leaf_again, leaf_first, flat_spells, bracket_spells}
 use Rattle.no_reread.proofs.ConstPieces.{zero_is, int_is, text_is, array_is, struct_is, address_is, integer_is, pointer_is}
-use Rattle.no_reread.proofs.Frame.{plain_spells, done_spells, then_spells, made_spells, checked_spells, yes_spells, no_spells}
-use Rattle.no_reread.proofs.Items.{none_some, some_none, some_some, items_again}
+use Rattle.no_reread.proofs.Frame.{plain_spells, done_spells, then_spells, made_spells, yes_spells, no_spells}
+use Rattle.no_reread.proofs.Items.{some_none, some_some, items_again}
 use Rattle.no_reread.proofs.Listing.{IsClose, word_spells, sign_spells, closes, goes_on}
 use Rattle.no_reread.proofs.Names.{string_again}
 use Rattle.no_reread.proofs.Numbers.{integer_again}
-use Rattle.no_reread.proofs.Opening.{Opens, begins_by, begins_alone, kept_value, kept_state, then_opens, checked_opens}
+use Rattle.no_reread.proofs.Opening.{Opens, begins_by, begins_alone, kept_value, then_opens, checked_opens}
 use Rattle.no_reread.proofs.Places.{number_small, width_small, width_spells, place_again}
 use Rattle.no_reread.proofs.SameTypes.{must_again}
 use Rattle.no_reread.proofs.Standing.{Begins, begins, sign_tested}
-use Rattle.no_reread.proofs.TypesAgain.{Units, HasPiece, has_piece, FirstHas, brace, brace_gap, braces_are, type_opens, type_again, same_again}
+use Rattle.no_reread.proofs.TypesAgain.{Units, has_piece, FirstHas, brace, brace_gap, braces_are, type_opens, same_again}
 use Rattle.no_reread.proofs.Widths.{IsWidth, full}
 
 square : IsClose (codes "]")
@@ -94,7 +94,7 @@ module _ (m : Meaning) (text : List ℕ) (bytes : AreBytes m.text) where
   pointer_spells : (depth : ℕ) (t : Ty) (place : Place) → Spells text (a_place (over m text) depth) tt (place_pieces (spelled_by m) spaced place) place tt
       → Spells text (checked (a_type (over m text) depth) (must_be t)) tt (type_pieces m.named t spaced) tt tt
       → Spells text (ptr_to_int (over m text) depth t) tt (sign spaced (codes "(") ++ (word glued (codes "ptr") ++ (place_pieces (spelled_by m) spaced place
-          ++ (word spaced (codes "to") ++ (type_pieces m.named t spaced ++ sign glued (codes ")")))))) (const.AddressAsInt place) tt
+      ++ (word spaced (codes "to") ++ (type_pieces m.named t spaced ++ sign glued (codes ")")))))) (const.AddressAsInt place) tt
   unfolding ptr_to_int
   pointer_spells depth t place placed typed =
       let c : Const = const.AddressAsInt place in
@@ -102,11 +102,11 @@ module _ (m : Meaning) (text : List ℕ) (bytes : AreBytes m.text) where
       let four : List Piece = word spaced (codes "to") ++ five in
       let three : List Piece = place_pieces (spelled_by m) spaced place ++ four in
       then_spells text _ _ tt tt tt (sign spaced (codes "(")) (word glued (codes "ptr") ++ three) tt c (sign_spells text spaced tt (codes "(") refl)
-        (then_spells text _ _ tt tt tt (word glued (codes "ptr")) three tt c (word_spells text glued tt (codes "ptr") refl)
-          (then_spells text _ _ tt tt tt (place_pieces (spelled_by m) spaced place) four place c placed
-            (then_spells text _ _ tt tt tt (word spaced (codes "to")) five tt c (word_spells text spaced tt (codes "to") refl)
-              (then_spells text _ _ tt tt tt (type_pieces m.named t spaced) (sign glued (codes ")")) tt c typed
-                (then_spells text _ _ tt tt tt (sign glued (codes ")")) [] tt c (sign_spells text glued tt (codes ")") refl) (done_spells text tt c))))))
+      (then_spells text _ _ tt tt tt (word glued (codes "ptr")) three tt c (word_spells text glued tt (codes "ptr") refl)
+      (then_spells text _ _ tt tt tt (place_pieces (spelled_by m) spaced place) four place c placed
+      (then_spells text _ _ tt tt tt (word spaced (codes "to")) five tt c (word_spells text spaced tt (codes "to") refl)
+      (then_spells text _ _ tt tt tt (type_pieces m.named t spaced) (sign glued (codes ")")) tt c typed
+      (then_spells text _ _ tt tt tt (sign glued (codes ")")) [] tt c (sign_spells text glued tt (codes ")") refl) (done_spells text tt c))))))
 
   pointer_again : (depth : ℕ) (t : Ty) (tokens : List Token) (c : Const) → (ptr_to_int m depth t).means tt tokens c tt → RestAgain depth t leaf.PtrToInt c
   unfolding ptr_to_int
@@ -132,11 +132,11 @@ module _ (m : Meaning) (text : List ℕ) (bytes : AreBytes m.text) where
       let three : List Piece = word spaced (codes "to") ++ four in
       let digits : List Piece = integer spaced (signed_decimal (signed 64 n)) in
       then_spells text _ _ tt tt tt (sign spaced (codes "(")) (int_type glued 64 ++ (digits ++ three)) tt c (sign_spells text spaced tt (codes "(") refl)
-        (then_spells text _ _ tt tt tt (int_type glued 64) (digits ++ three) 64 c (width_spells text glued 64 full)
-          (then_spells text _ _ tt tt tt digits three n c (plain_spells {S = Unit {0}} text (number_by 64) tt (record { gap = spaced; kind = kind.Integer; bytes = signed_decimal (signed 64 n) }) n (integer_again 64 n full.some full.most small))
-            (then_spells text _ _ tt tt tt (word spaced (codes "to")) four tt c (word_spells text spaced tt (codes "to") refl)
-              (then_spells text _ _ tt tt tt (word spaced (codes "ptr")) (sign glued (codes ")")) tt c (word_spells text spaced tt (codes "ptr") refl)
-                (then_spells text _ _ tt tt tt (sign glued (codes ")")) [] tt c (sign_spells text glued tt (codes ")") refl) (done_spells text tt c))))))
+      (then_spells text _ _ tt tt tt (int_type glued 64) (digits ++ three) 64 c (width_spells text glued 64 full)
+      (then_spells text _ _ tt tt tt digits three n c (plain_spells {S = Unit {0}} text (number_by 64) tt (record { gap = spaced; kind = kind.Integer; bytes = signed_decimal (signed 64 n) }) n (integer_again 64 n full.some full.most small))
+      (then_spells text _ _ tt tt tt (word spaced (codes "to")) four tt c (word_spells text spaced tt (codes "to") refl)
+      (then_spells text _ _ tt tt tt (word spaced (codes "ptr")) (sign glued (codes ")")) tt c (word_spells text spaced tt (codes "ptr") refl)
+      (then_spells text _ _ tt tt tt (sign glued (codes ")")) [] tt c (sign_spells text glued tt (codes ")") refl) (done_spells text tt c))))))
 
   integer_pointer : (depth : ℕ) (t : Ty) (tokens : List Token) (c : Const) → (int_to_ptr m).means tt tokens c tt → RestAgain depth t leaf.IntToPtr c
   unfolding int_to_ptr
@@ -186,7 +186,7 @@ module _ (m : Meaning) (text : List ℕ) (bytes : AreBytes m.text) where
       let is : c ≡ const.Address place = r.in_back.1 in
       let made = made_spells text (a_place (over m text) depth) (λ place. const.Address place) tt tt (place_pieces (spelled_by m) gap place) place (place_again m text bytes depth gap tt tt tt r.front place tt r.in_front).2 in
       subst (λ (c : Const). Spells text (a_place (over m text) depth >>= λ place. done (const.Address place)) tt (const_pieces (spelled_by m) c t gap) c tt) (sym is)
-        (subst (λ l. Spells text (a_place (over m text) depth >>= λ place. done (const.Address place)) tt l (const.Address place) tt) (sym (address_is (spelled_by m) t gap place)) made)
+      (subst (λ l. Spells text (a_place (over m text) depth >>= λ place. done (const.Address place)) tt l (const.Address place) tt) (sym (address_is (spelled_by m) t gap place)) made)
 
   address_opens : (depth : ℕ) → Opens (begins_place text) true (address (over m text) depth)
   unfolding address
@@ -213,7 +213,7 @@ module _ (m : Meaning) (text : List ℕ) (bytes : AreBytes m.text) where
         let is : typed.value ≡ t = (must_again t typed.value typed.passes).0 in
         let fits : TypeFits t = subst TypeFits is (read_fits m depth r.front typed.value bytes typed.read) in
         then_spells text (checked (a_type (over m text) depth) (must_be t)) (λ _. beyond t) tt tt tt (type_pieces m.named t gap) (const_pieces (spelled_by m) c t spaced) tt c
-          (same_again m text bytes depth t gap r.front typed) (again t fits spaced r.back c r.in_back)
+        (same_again m text bytes depth t gap r.front typed) (again t fits spaced r.back c r.in_back)
 
     member_solid : (t : Ty) → IsSolid (member (over m text) depth beyond t)
     unfolding member
@@ -233,7 +233,7 @@ module _ (m : Meaning) (text : List ℕ) (bytes : AreBytes m.text) where
         let all : List Const = r.first in
         let each : (gap : List ℕ) → Again Units text (member m depth inside element) (member (over m text) depth beyond element) (λ c. member_pieces element c gap) = λ gap s z t tokens c like k. (tt, tt, member_again element gap tokens c k) in
         let listed = (items_again Units m.text text (codes "]") (member m depth inside element) (member (over m text) depth beyond element) (λ g c. member_pieces element c g) square each
-            (member_opens element (codes "]") refl) glued glued tt tt tt r.front all tt r.in_front).2 in
+        (member_opens element (codes "]") refl) glued glued tt tt tt r.front all tt r.in_front).2 in
         (all, r.in_back.1, made_spells text (items text (codes "]") (member (over m text) depth beyond element)) (λ all. const.Array all) tt tt (with_commas (λ g c. member_pieces element c g) glued all ++ sign glued (codes "]")) all listed)
 
     -- ---- fields
@@ -316,20 +316,20 @@ module _ (m : Meaning) (text : List ℕ) (bytes : AreBytes m.text) where
       more_spell [] (c ∷ all) h = absurd h
       more_spell (t ∷ types) (c ∷ all) h =
           subst (λ l. Spells text (next_field (over m text) depth beyond (codes "}") (t ∷ types) >>= end_or (over m text) depth beyond (more_fields (over m text) depth beyond (codes "}") types)) tt l (c ∷ all) tt)
-            (ap (λ l. comma ++ l) (sym (append_assoc (member_pieces t c spaced) (behind_commas (field_at spaced) (written types all)) (sign gap (codes "}")))))
-            (then_spells text (next_field (over m text) depth beyond (codes "}") (t ∷ types)) (end_or (over m text) depth beyond (more_fields (over m text) depth beyond (codes "}") types)) tt tt tt
-              (comma ++ member_pieces t c spaced) (behind_commas (field_at spaced) (written types all) ++ sign gap (codes "}")) (Some c) (c ∷ all) (next_spells t types c (h.0 spaced))
-              (made_spells text (more_fields (over m text) depth beyond (codes "}") types) (λ others. c ∷ others) tt tt (behind_commas (field_at spaced) (written types all) ++ sign gap (codes "}")) all (more_spell types all h.1)))
+          (ap (λ l. comma ++ l) (sym (append_assoc (member_pieces t c spaced) (behind_commas (field_at spaced) (written types all)) (sign gap (codes "}")))))
+          (then_spells text (next_field (over m text) depth beyond (codes "}") (t ∷ types)) (end_or (over m text) depth beyond (more_fields (over m text) depth beyond (codes "}") types)) tt tt tt
+          (comma ++ member_pieces t c spaced) (behind_commas (field_at spaced) (written types all) ++ sign gap (codes "}")) (Some c) (c ∷ all) (next_spells t types c (h.0 spaced))
+          (made_spells text (more_fields (over m text) depth beyond (codes "}") types) (λ others. c ∷ others) tt tt (behind_commas (field_at spaced) (written types all) ++ sign gap (codes "}")) all (more_spell types all h.1)))
 
       some_spell : (t : Ty) (types : List Ty) (c : Const) (all : List Const) → EachField (t ∷ types) (c ∷ all)
           → Spells text (some_fields (over m text) depth beyond (codes "}") (t ∷ types)) tt ((member_pieces t c spaced ++ behind_commas (field_at spaced) (written types all)) ++ sign gap (codes "}")) (c ∷ all) tt
       unfolding some_fields
       some_spell t types c all h =
           subst (λ l. Spells text (member (over m text) depth beyond t >>= λ c. more_fields (over m text) depth beyond (codes "}") types >>= λ others. done (c ∷ others)) tt l (c ∷ all) tt)
-            (sym (append_assoc (member_pieces t c spaced) (behind_commas (field_at spaced) (written types all)) (sign gap (codes "}"))))
-            (then_spells text (member (over m text) depth beyond t) (λ c. more_fields (over m text) depth beyond (codes "}") types >>= λ others. done (c ∷ others)) tt tt tt
-              (member_pieces t c spaced) (behind_commas (field_at spaced) (written types all) ++ sign gap (codes "}")) c (c ∷ all) (h.0 spaced)
-              (made_spells text (more_fields (over m text) depth beyond (codes "}") types) (λ others. c ∷ others) tt tt (behind_commas (field_at spaced) (written types all) ++ sign gap (codes "}")) all (more_spell types all h.1)))
+          (sym (append_assoc (member_pieces t c spaced) (behind_commas (field_at spaced) (written types all)) (sign gap (codes "}"))))
+          (then_spells text (member (over m text) depth beyond t) (λ c. more_fields (over m text) depth beyond (codes "}") types >>= λ others. done (c ∷ others)) tt tt tt
+          (member_pieces t c spaced) (behind_commas (field_at spaced) (written types all) ++ sign gap (codes "}")) c (c ∷ all) (h.0 spaced)
+          (made_spells text (more_fields (over m text) depth beyond (codes "}") types) (λ others. c ∷ others) tt tt (behind_commas (field_at spaced) (written types all) ++ sign gap (codes "}")) all (more_spell types all h.1)))
 
       none_spell : Spells text (no_fields (over m text) depth beyond (codes "}")) tt (sign gap (codes "}")) [] tt
       unfolding no_fields
@@ -342,10 +342,10 @@ module _ (m : Meaning) (text : List ℕ) (bytes : AreBytes m.text) where
       fields_spell [] (c ∷ all) h = absurd h
       fields_spell (t ∷ types) (c ∷ all) h =
           no_spells text (is_sign text (codes "}")) (no_fields (over m text) depth beyond (codes "}")) (some_fields (over m text) depth beyond (codes "}") (t ∷ types)) tt
-            ((member_pieces t c spaced ++ behind_commas (field_at spaced) (written types all)) ++ sign gap (codes "}")) (c ∷ all) tt
-            (subst (Begins text (is_sign text (codes "}")) false) (sym (append_assoc (member_pieces t c spaced) (behind_commas (field_at spaced) (written types all)) (sign gap (codes "}"))))
-              (begins_by text (is_sign text (codes "}")) false (member (over m text) depth beyond t) (member_opens t (codes "}") refl) tt tt c (member_pieces t c spaced) (behind_commas (field_at spaced) (written types all) ++ sign gap (codes "}")) (h.0 spaced)))
-            (some_spell t types c all h)
+          ((member_pieces t c spaced ++ behind_commas (field_at spaced) (written types all)) ++ sign gap (codes "}")) (c ∷ all) tt
+          (subst (Begins text (is_sign text (codes "}")) false) (sym (append_assoc (member_pieces t c spaced) (behind_commas (field_at spaced) (written types all)) (sign gap (codes "}"))))
+          (begins_by text (is_sign text (codes "}")) false (member (over m text) depth beyond t) (member_opens t (codes "}") refl) tt tt c (member_pieces t c spaced) (behind_commas (field_at spaced) (written types all) ++ sign gap (codes "}")) (h.0 spaced)))
+          (some_spell t types c all h)
 
     struct_spells : (types : List Ty) (gap : List ℕ) (all : List Const) → EachField types all
         → Spells text (struct_const (over m text) depth beyond types) tt (with_commas field_at spaced (written types all) ++ sign gap (codes "}")) (const.Struct all) tt
@@ -404,8 +404,8 @@ module _ (m : Meaning) (text : List ℕ) (bytes : AreBytes m.text) where
     leaf_whole t gap l tokens c fits h r =
         let x = rest_again (suc depth) t l tokens c r in
         subst (λ ps. Spells text (bracket_const (over m text) depth beyond t) tt ps c tt) (sym (x.are gap))
-          (then_spells text (plain (const_head text (shape_of (resolved m t)))) (after_head (over m text) depth beyond t) tt tt tt (leaf_first (out-Ty (resolved m t)) gap l) x.pieces (head.Leaf l) c
-            (bracket_spells text gap (out-Ty (resolved m t)) l fits h) x.spells)
+        (then_spells text (plain (const_head text (shape_of (resolved m t)))) (after_head (over m text) depth beyond t) tt tt tt (leaf_first (out-Ty (resolved m t)) gap l) x.pieces (head.Leaf l) c
+        (bracket_spells text gap (out-Ty (resolved m t)) l fits h) x.spells)
 
     array_whole : (t : Ty) (gap : List ℕ) (tokens : List Token) (c : Const) → BracketAgain (out-Ty (resolved m t)) head.Array → (array_const m depth inside (element_in t (out-Ty (resolved m t)))).means tt tokens c tt → Bracketed t c gap
     array_whole t gap tokens c h r =
@@ -413,12 +413,12 @@ module _ (m : Meaning) (text : List ℕ) (bytes : AreBytes m.text) where
         let y = array_again (element_in t x) gap tokens c r in
         let element : print.element_in (out-Ty (print.resolved (spelled_by m) t)) ≡ element_in t x = ap (λ (u : Ty). print.element_in (out-Ty u)) (resolved_same m t) ∙ same_element t x h in
         let are : const_pieces (spelled_by m) c t gap ≡ sign gap (codes "[") ++ (with_commas (λ g c. member_pieces (element_in t x) c g) glued y.0 ++ sign glued (codes "]")) =
-            ap (λ (c : Const). const_pieces (spelled_by m) c t gap) y.1 ∙ array_is (spelled_by m) t gap y.0
-            ∙ ap (λ (e : Ty). sign gap (codes "[") ++ (with_commas (λ g c. member_pieces e c g) glued y.0 ++ sign glued (codes "]"))) element in
+        ap (λ (c : Const). const_pieces (spelled_by m) c t gap) y.1 ∙ array_is (spelled_by m) t gap y.0
+        ∙ ap (λ (e : Ty). sign gap (codes "[") ++ (with_commas (λ g c. member_pieces e c g) glued y.0 ++ sign glued (codes "]"))) element in
         subst (λ ps. Spells text (bracket_const (over m text) depth beyond t) tt ps c tt) (sym are)
-          (then_spells text (plain (const_head text (shape_in x))) (after_head (over m text) depth beyond t) tt tt tt (sign gap (codes "[")) (with_commas (λ g c. member_pieces (element_in t x) c g) glued y.0 ++ sign glued (codes "]")) head.Array c
-            (plain_spells {S = Unit {0}} text (const_by (shape_in x)) tt (record { gap = gap; kind = kind.Sign; bytes = codes "[" }) head.Array (opens_array x h))
-            (subst (λ (c : Const). Spells text (array_const (over m text) depth beyond (element_in t x)) tt (with_commas (λ g c. member_pieces (element_in t x) c g) glued y.0 ++ sign glued (codes "]")) c tt) (sym y.1) y.2))
+        (then_spells text (plain (const_head text (shape_in x))) (after_head (over m text) depth beyond t) tt tt tt (sign gap (codes "[")) (with_commas (λ g c. member_pieces (element_in t x) c g) glued y.0 ++ sign glued (codes "]")) head.Array c
+        (plain_spells {S = Unit {0}} text (const_by (shape_in x)) tt (record { gap = gap; kind = kind.Sign; bytes = codes "[" }) head.Array (opens_array x h))
+        (subst (λ (c : Const). Spells text (array_const (over m text) depth beyond (element_in t x)) tt (with_commas (λ g c. member_pieces (element_in t x) c g) glued y.0 ++ sign glued (codes "]")) c tt) (sym y.1) y.2))
 
     struct_whole : (t : Ty) (gap : List ℕ) (all : List Const) (c : Const) → c ≡ const.Struct all → (BracketAgain (out-Ty (resolved m t)) head.Struct) ⊎ (BracketAgain (out-Ty (resolved m t)) head.Packed)
         → EachField (fields_in (out-Ty (resolved m t))) all → Bracketed t c gap
@@ -428,12 +428,12 @@ module _ (m : Meaning) (text : List ℕ) (bytes : AreBytes m.text) where
         let end : List ℕ = brace_gap (written types all) in
         let same : print.fields_in (out-Ty (print.resolved (spelled_by m) t)) ≡ types = ap (λ (u : Ty). print.fields_in (out-Ty u)) (resolved_same m t) ∙ same_fields x in
         let are : const_pieces (spelled_by m) c t gap ≡ sign gap (codes "{") ++ (with_commas field_at spaced (written types all) ++ sign end (codes "}")) =
-            ap (λ (c : Const). const_pieces (spelled_by m) c t gap) is ∙ struct_is (spelled_by m) t gap all
-            ∙ ap (λ (l : List Ty). in_braces gap (with_commas field_at spaced (written l all))) same ∙ braces_are gap field_at (written types all) (first_has types all each) in
+        ap (λ (c : Const). const_pieces (spelled_by m) c t gap) is ∙ struct_is (spelled_by m) t gap all
+        ∙ ap (λ (l : List Ty). in_braces gap (with_commas field_at spaced (written l all))) same ∙ braces_are gap field_at (written types all) (first_has types all each) in
         subst (λ ps. Spells text (bracket_const (over m text) depth beyond t) tt ps c tt) (sym are)
-          (then_spells text (plain (const_head text (shape_in x))) (after_head (over m text) depth beyond t) tt tt tt (sign gap (codes "{")) (with_commas field_at spaced (written types all) ++ sign end (codes "}")) head.Struct c
-            (plain_spells {S = Unit {0}} text (const_by (shape_in x)) tt (record { gap = gap; kind = kind.Sign; bytes = codes "{" }) head.Struct (opens_struct x h))
-            (subst (λ (c : Const). Spells text (struct_const (over m text) depth beyond types) tt (with_commas field_at spaced (written types all) ++ sign end (codes "}")) c tt) (sym is) (struct_spells types end all each)))
+        (then_spells text (plain (const_head text (shape_in x))) (after_head (over m text) depth beyond t) tt tt tt (sign gap (codes "{")) (with_commas field_at spaced (written types all) ++ sign end (codes "}")) head.Struct c
+        (plain_spells {S = Unit {0}} text (const_by (shape_in x)) tt (record { gap = gap; kind = kind.Sign; bytes = codes "{" }) head.Struct (opens_struct x h))
+        (subst (λ (c : Const). Spells text (struct_const (over m text) depth beyond types) tt (with_commas field_at spaced (written types all) ++ sign end (codes "}")) c tt) (sym is) (struct_spells types end all each)))
 
     head_whole : (t : Ty) (gap : List ℕ) (h : ConstHead) (token : Token) (tokens : List Token) (c : Const) → TypeFits t → const_head m.text (shape_of (resolved m t)) token ≡ Ok h → (after_head m depth inside t h).means tt tokens c tt → Bracketed t c gap
     head_whole t gap (head.Leaf l) token tokens c fits e r =
@@ -464,15 +464,15 @@ module _ (m : Meaning) (text : List ℕ) (bytes : AreBytes m.text) where
       let read = kept_value tt (leaf_head m.text (shape_of (resolved m t)) token) l tt r.in_front.value in
       let y = rest_again zero t l r.back c r.in_back in
       subst (λ ps. Spells text (flat_const (over m text) t) tt ps c tt) (sym (y.are gap))
-        (then_spells text (plain (leaf_head text (shape_of (resolved m t)))) (after_leaf (over m text) zero t) tt tt tt (leaf_first x gap l) y.pieces l c
-          (flat_spells text gap x l (resolved_fits m t fit fits) (leaf_again x token.kind (spelled m.text token) l read)) y.spells)
+      (then_spells text (plain (leaf_head text (shape_of (resolved m t)))) (after_leaf (over m text) zero t) tt tt tt (leaf_first x gap l) y.pieces l c
+      (flat_spells text gap x l (resolved_fits m t fit fits) (leaf_again x token.kind (spelled m.text token) l read)) y.spells)
 
   place_or : (depth : ℕ) (t : Ty) (gap : List ℕ) (tokens : List Token) (c : Const) (other : Rule (Unit {0}) Const) → (address m depth).means tt tokens c tt
       → Spells text (if_next (begins_place text) (address (over m text) depth) other) tt (const_pieces (spelled_by m) c t gap) c tt
   place_or depth t gap tokens c other r =
       let spells = address_again depth t gap tokens c r in
       yes_spells text (begins_place text) (address (over m text) depth) other tt (const_pieces (spelled_by m) c t gap) c tt
-        (begins_alone text (begins_place text) true (address (over m text) depth) (address_opens depth) tt tt c (const_pieces (spelled_by m) c t gap) spells) spells
+      (begins_alone text (begins_place text) true (address (over m text) depth) (address_opens depth) tt tt c (const_pieces (spelled_by m) c t gap) spells) spells
 
   pub const_again : (fit : TypesFit m.types) (depth : ℕ) (t : Ty) → TypeFits t → (gap : List ℕ) (tokens : List Token) (c : Const) → (a_const m depth t).means tt tokens c tt
       → Spells text (a_const (over m text) depth t) tt (const_pieces (spelled_by m) c t gap) c tt
@@ -482,10 +482,10 @@ module _ (m : Meaning) (text : List ℕ) (bytes : AreBytes m.text) where
       let spells = flat_again fit t gap tokens c fits r.1 in
       let opens = then_opens (begins_place text) false (plain (leaf_head text (shape_of (resolved m t)))) (after_leaf (over m text) zero t) (leaf_opens text (shape_of (resolved m t))) in
       no_spells text (begins_place text) (address (over m text) zero) (flat_const (over m text) t) tt (const_pieces (spelled_by m) c t gap) c tt
-        (begins_alone text (begins_place text) false (flat_const (over m text) t) opens tt tt c (const_pieces (spelled_by m) c t gap) spells) spells
+      (begins_alone text (begins_place text) false (flat_const (over m text) t) opens tt tt c (const_pieces (spelled_by m) c t gap) spells) spells
   const_again fit (suc depth) t fits gap tokens c (inl r) = place_or (suc depth) t gap tokens c (bracket_const (over m text) depth (a_const (over m text) depth) t) r.1
   const_again fit (suc depth) t fits gap tokens c (inr r) =
       let spells = bracket_again_all depth fit (const_again fit depth) t gap tokens c fits r.1 in
       let opens = then_opens (begins_place text) false (plain (const_head text (shape_of (resolved m t)))) (after_head (over m text) depth (a_const (over m text) depth) t) (bracket_opens text (shape_of (resolved m t))) in
       no_spells text (begins_place text) (address (over m text) (suc depth)) (bracket_const (over m text) depth (a_const (over m text) depth) t) tt (const_pieces (spelled_by m) c t gap) c tt
-        (begins_alone text (begins_place text) false (bracket_const (over m text) depth (a_const (over m text) depth) t) opens tt tt c (const_pieces (spelled_by m) c t gap) spells) spells
+      (begins_alone text (begins_place text) false (bracket_const (over m text) depth (a_const (over m text) depth) t) opens tt tt c (const_pieces (spelled_by m) c t gap) spells) spells

@@ -1,14 +1,14 @@
 -- What pieces spell by each way to make a rule.
-use Rattle.std.proofs.Common.{append-nil, ◌≡◌, ℕ, suc, zero, Bool, true, false, List, [], ◌∷◌, ◌++◌, Option, Some, None, Result, Ok, Err, inl, inr, refl, sym, ap, subst, ◌∙◌}
+use Rattle.std.proofs.Common.{append-nil, ◌≡◌, ℕ, Bool, true, false, List, [], ◌∷◌, ◌++◌, Result, Ok, inl, inr, refl, ap, subst, ◌∙◌}
 use Rattle.no_lex.specs.declared.token.Token.{Token}
 use Rattle.no_lex.specs.declared.token.TokenKind.{TokenKind}
 use Rattle.no_grammar.specs.declared.fault.Flaw.{Flaw}
-use Rattle.no_grammar.specs.Rules.{Rule, one, keeping, plain, done, change, ◌>>=◌, lift, next_is, if_next, maybe, checked}
+use Rattle.no_grammar.specs.Rules.{Rule, one, keeping, plain, done, ◌>>=◌, lift, if_next, checked}
 use Rattle.no_grammar.specs.Spelled.{spelled}
 use Rattle.no_print.specs.Pieces.{Piece}
-use Rattle.no_print.specs.Stand.{IsPiece, Stand}
+use Rattle.no_print.specs.Stand.{IsPiece}
 use Rattle.no_reread.specs.Spells.{Spells}
-use Rattle.no_reread.proofs.Standing.{stand_parts, stand_none, stand_one, Heads, Tests, Begins, begins, begins_none}
+use Rattle.no_reread.proofs.Standing.{stand_parts, stand_none, stand_one, Begins}
 
 okay : {A : Type 0} → A → Result A Flaw
 okay x = Ok x

@@ -1,11 +1,11 @@
 -- Items that were read are spelled again.
-use Rattle.std.proofs.Common.{◌≡◌, ℕ, Bool, true, false, List, [], ◌∷◌, ◌++◌, map, Option, Some, None, Result, Ok, Err, ◌⊎◌, inl, inr, refl, sym, ap, subst, ◌∙◌}
+use Rattle.std.proofs.Common.{◌≡◌, ℕ, Bool, true, false, List, [], ◌∷◌, ◌++◌, Some, None, inl, inr, refl, sym, subst, ◌∙◌}
 use Rattle.no_lex.specs.declared.token.Token.{Token}
-use Rattle.no_grammar.specs.Rules.{Rule, plain, done, ◌>>=◌, choose, if_next, IsThen}
-use Rattle.no_grammar.specs.Repeated.{IsRepeated, repeat}
-use Rattle.no_grammar.specs.Spelled.{is_sign, a_sign}
+use Rattle.no_grammar.specs.Rules.{Rule, done, ◌>>=◌, choose}
+use Rattle.no_grammar.specs.Repeated.{IsRepeated}
+use Rattle.no_grammar.specs.Spelled.{is_sign}
 use Rattle.no_grammar.specs.Lists.{closes_list, more_item, some_items, no_items, items}
-use Rattle.no_print.specs.Pieces.{Piece, sign, spaced, behind_commas, with_commas}
+use Rattle.no_print.specs.Pieces.{Piece, sign, spaced, with_commas}
 use Rattle.no_reread.specs.Spells.{Spells, Again}
 use Rattle.no_reread.proofs.Opening.{Opens, kept_state}
 use Rattle.no_reread.proofs.Listing.{EachSpells, IsClose, items_spell, no_items_spell}

@@ -1,20 +1,18 @@
 -- What lists spell: items with commas between them, and steps that repeat.
-use Rattle.std.proofs.Common.{◌≡◌, ℕ, Bool, true, false, List, [], ◌∷◌, ◌++◌, map, bytes_eq, codes, Option, Some, None, Result, Ok, Err, if◌then◌else◌, refl, sym, ap, subst, ◌∙◌, append_assoc, append-nil}
-use Rattle.no_lex.specs.declared.token.Token.{Token}
+use Rattle.std.proofs.Common.{◌≡◌, ℕ, Bool, true, false, List, [], ◌∷◌, ◌++◌, bytes_eq, codes, Option, Some, None, Result, Ok, Err, if◌then◌else◌, sym, ap, subst, ◌∙◌, append_assoc, append-nil}
 use Rattle.no_lex.specs.declared.token.TokenKind.{TokenKind}
 use Rattle.no_lex.specs.declared.token.TokenKind.TheVariants as kind
 use Rattle.no_grammar.specs.declared.fault.Flaw.{Flaw}
 use Rattle.no_grammar.specs.declared.fault.Flaw.TheVariants.{Syntax}
-use Rattle.no_grammar.specs.Rules.{Rule, plain, done, ◌>>=◌, choose, if_next}
+use Rattle.no_grammar.specs.Rules.{Rule, plain, done, ◌>>=◌, choose}
 use Rattle.no_grammar.specs.Repeated.{repeat}
-use Rattle.no_grammar.specs.Spelled.{spelled, kind_number, is_sign, is_word, only_where, a_word, a_sign}
+use Rattle.no_grammar.specs.Spelled.{is_sign, only_where, a_word, a_sign}
 use Rattle.no_grammar.specs.Lists.{closes_list, more_item, some_items, no_items, items}
 use Rattle.no_print.specs.Pieces.{Piece, word, sign, comma, spaced, behind_commas, with_commas}
-use Rattle.no_print.specs.Stand.{IsPiece, Stand}
 use Rattle.no_reread.specs.Spells.{Spells}
-use Rattle.no_reread.proofs.Standing.{InParts, stand_parts, Tests, Begins, begins, piece_is_word, piece_is_sign, sign_tested}
+use Rattle.no_reread.proofs.Standing.{stand_parts, Begins, begins, piece_is_word, piece_is_sign, sign_tested}
 use Rattle.no_reread.proofs.Frame.{plain_spells, done_spells, then_spells, yes_spells, no_spells}
-use Rattle.no_reread.proofs.Opening.{Opens, begins_by, then_opens}
+use Rattle.no_reread.proofs.Opening.{Opens, begins_by}
 
 -- ---- words and signs
 
@@ -78,23 +76,23 @@ module _ {S A : Type 0} (text close gap : List ℕ) (item : Rule S A) (closing :
   unfolding more_item
   more_spells s t a pieces h = then_spells text (plain (closes_list text close)) (λ closes. choose closes (done None) (item >>= λ a. done (Some a))) s s t comma pieces false (Some a) (goes_on s)
       (subst (λ l. Spells text (item >>= λ a. done (Some a)) s l (Some a) t) (append-nil pieces)
-        (then_spells text item (λ a. done (Some a)) s t t pieces [] a (Some a) h (done_spells text t (Some a))))
+      (then_spells text item (λ a. done (Some a)) s t t pieces [] a (Some a) h (done_spells text t (Some a))))
 
   pub behind_spells : (f : A → List Piece) (s t : S) (all : List A) → EachSpells text item f s all t → Spells text (repeat (more_item text close item)) s (behind_commas f all ++ sign gap close) all t
   behind_spells f s t [] e = subst (λ u. Spells text (repeat (more_item text close item)) s (sign gap close) [] u) (sym e) (repeat_end text (more_item text close item) s s (sign gap close) (end_spells s))
   behind_spells f s t (a ∷ all) e =
       subst (λ l. Spells text (repeat (more_item text close item)) s l (a ∷ all) t)
-        (ap (λ l. comma ++ l) (sym (append_assoc (f a) (behind_commas f all) (sign gap close))))
-        (repeat_more text (more_item text close item) s e.0 t (comma ++ f a) (behind_commas f all ++ sign gap close) a all (more_spells s e.0 a (f a) e.1) (behind_spells f e.0 t all e.2))
+      (ap (λ l. comma ++ l) (sym (append_assoc (f a) (behind_commas f all) (sign gap close))))
+      (repeat_more text (more_item text close item) s e.0 t (comma ++ f a) (behind_commas f all ++ sign gap close) a all (more_spells s e.0 a (f a) e.1) (behind_spells f e.0 t all e.2))
 
   some_spells : (f : A → List Piece) (s u t : S) (a : A) (all : List A) (front : List Piece) → Spells text item s front a u → EachSpells text item f u all t
       → Spells text (some_items text close item) s ((front ++ behind_commas f all) ++ sign gap close) (a ∷ all) t
   unfolding some_items
   some_spells f s u t a all front x e =
       subst (λ l. Spells text (item >>= λ first. repeat (more_item text close item) >>= λ others. done (first ∷ others)) s l (a ∷ all) t)
-        (ap (λ l. front ++ l) (append-nil (behind_commas f all ++ sign gap close)) ∙ sym (append_assoc front (behind_commas f all) (sign gap close)))
-        (then_spells text item (λ first. repeat (more_item text close item) >>= λ others. done (first ∷ others)) s u t front ((behind_commas f all ++ sign gap close) ++ []) a (a ∷ all) x
-          (then_spells text (repeat (more_item text close item)) (λ others. done (a ∷ others)) u t t (behind_commas f all ++ sign gap close) [] all (a ∷ all) (behind_spells f u t all e) (done_spells text t (a ∷ all))))
+      (ap (λ l. front ++ l) (append-nil (behind_commas f all ++ sign gap close)) ∙ sym (append_assoc front (behind_commas f all) (sign gap close)))
+      (then_spells text item (λ first. repeat (more_item text close item) >>= λ others. done (first ∷ others)) s u t front ((behind_commas f all ++ sign gap close) ++ []) a (a ∷ all) x
+      (then_spells text (repeat (more_item text close item)) (λ others. done (a ∷ others)) u t t (behind_commas f all ++ sign gap close) [] all (a ∷ all) (behind_spells f u t all e) (done_spells text t (a ∷ all))))
 
   none_spells : (s : S) → Spells text (no_items {S = S} {A = A} text close) s (sign gap close) [] s
   unfolding no_items
@@ -107,9 +105,9 @@ module _ {S A : Type 0} (text close gap : List ℕ) (item : Rule S A) (closing :
     unfolding items
     items_spell f front s u t a all x e =
         no_spells text (is_sign text close) (no_items text close) (some_items text close item) s (with_commas f front (a ∷ all) ++ sign gap close) (a ∷ all) t
-          (subst (Begins text (is_sign text close) false) (sym (append_assoc (f front a) (behind_commas (f spaced) all) (sign gap close)))
-            (begins_by text (is_sign text close) false item opens s u a (f front a) (behind_commas (f spaced) all ++ sign gap close) x))
-          (some_spells (f spaced) s u t a all (f front a) x e)
+        (subst (Begins text (is_sign text close) false) (sym (append_assoc (f front a) (behind_commas (f spaced) all) (sign gap close)))
+        (begins_by text (is_sign text close) false item opens s u a (f front a) (behind_commas (f spaced) all ++ sign gap close) x))
+        (some_spells (f spaced) s u t a all (f front a) x e)
 
     pub no_items_spell : (s : S) → Spells text (items text close item) s (sign gap close) [] s
     unfolding items

@@ -1,9 +1,9 @@
 -- A name's spelling is that name again.
-use Rattle.std.proofs.Common.{◌≡◌, ℕ, suc, zero, ◌+◌, ◌-◌, ◌*◌, ◌/◌, ◌%◌, ◌<◌, ◌≤◌, Bool, true, false, not, ◌&&◌, ◌||◌, List, [], ◌∷◌, ◌++◌, ◌==◌, nat_le, nat_lt, length, take, drop, All, if◌then◌else◌, refl, sym, ap, subst, ◌∙◌, append_assoc, arith, length-append, true≢false}
-use Rattle.std.proofs.lemmas.Bool.{le-leb, lt-leb, leb-true, leb-false, eqb-true, eqb-false, eq-eqb, ne_eqb, ltb-true, ltb-false, lt-ltb}
+use Rattle.std.proofs.Common.{◌≡◌, ℕ, ◌+◌, ◌-◌, ◌*◌, ◌/◌, ◌%◌, ◌<◌, ◌≤◌, Bool, true, false, not, ◌&&◌, List, [], ◌∷◌, ◌++◌, ◌==◌, nat_le, nat_lt, length, take, if◌then◌else◌, refl, sym, ap, ◌∙◌, arith, length-append, true≢false}
+use Rattle.std.proofs.lemmas.Bool.{le-leb, lt-leb, eqb-true, ne_eqb, ltb-true, ltb-false}
 use Rattle.std.proofs.Math.Seq.{take-append_seam}
-use Rattle.no_lex.specs.Spelling.{is_name_byte, is_name}
-use Rattle.no_grammar.specs.Unescaped.{is_hex, hex_value, unescaped, inner, is_quoted, name_of}
+use Rattle.no_lex.specs.Spelling.{is_name}
+use Rattle.no_grammar.specs.Unescaped.{is_hex, hex_value, unescaped, inner, name_of}
 use Rattle.no_reread.specs.Spells.{AreBytes}
 use Rattle.no_print.specs.Names.{hex_digit, is_plain, escaped_byte, escaped, quoted, spelling}
 

@@ -1,14 +1,13 @@
 -- A place that was read is read again where it is spelled.
-use Rattle.std.proofs.Common.{◌≡◌, ℕ, suc, zero, ◌+◌, ◌-◌, ◌*◌, ◌^◌, ◌<◌, ◌≤◌, Bool, true, false, ◌&&◌, ◌||◌, ◌==◌, List, [], ◌∷◌, ◌++◌, drop, ℤ, decimal, codes, position, bytes_eq, nat_lt, nat_le, Option, Some, None, Result, Ok, Err, ◌⊎◌, inl, inr, if◌then◌else◌, refl, sym, ap, subst, ◌∙◌, append_assoc, append-nil, arith, pow_mono, pow_pos}
+use Rattle.std.proofs.Common.{◌≡◌, ℕ, ◌-◌, ◌*◌, ◌^◌, ◌<◌, Bool, true, false, ◌&&◌, ◌||◌, ◌==◌, List, [], ◌∷◌, ◌++◌, drop, ℤ, decimal, codes, position, bytes_eq, nat_lt, nat_le, Option, Some, None, Result, Ok, Err, inl, inr, if◌then◌else◌, refl, sym, ap, subst, ◌∙◌, append_assoc, arith, pow_pos}
 use Rattle.std.specs.Fmt.{signed_decimal}
-use Rattle.std.proofs.lemmas.Bool.{ltb-true, leb-true, eqb-true, eqb-false}
+use Rattle.std.proofs.lemmas.Bool.{ltb-true, eqb-true, eqb-false}
 use Rattle.no_lex.specs.declared.token.Token.{Token}
 use Rattle.no_lex.specs.declared.token.TokenKind.{TokenKind}
 use Rattle.no_lex.specs.declared.token.TokenKind.TheVariants as kind
 use Rattle.no_ir.specs.declared.types.Ty.{Ty}
 use Rattle.no_ir.specs.declared.types.Ty.TheVariants as ty
 use Rattle.no_ir.specs.declared.constant.Symbol.{Symbol}
-use Rattle.no_ir.specs.declared.constant.Symbol.TheVariants as symbol
 use Rattle.no_ir.specs.declared.constant.Place.{Place}
 use Rattle.no_grammar.specs.declared.fault.Flaw.{Flaw}
 use Rattle.no_grammar.specs.declared.fault.Flaw.TheVariants.{Syntax, Number}
@@ -18,33 +17,31 @@ use Rattle.no_grammar.specs.Lists.{more_item}
 use Rattle.no_grammar.specs.Numbers.{is_negative, digits_of, kept, integer_at}
 use Rattle.no_grammar.specs.Numbers as numbers
 use Rattle.no_grammar.specs.Repeated.{repeat}
-use Rattle.no_grammar.specs.Rules.{Rule, plain, done, ◌>>=◌}
+use Rattle.no_grammar.specs.Rules.{plain, done, ◌>>=◌}
 use Rattle.no_grammar.specs.Scope.{Meaning}
-use Rattle.no_grammar.specs.Spelled.{spelled, kind_number, is_kind, is_word, a_word, a_sign}
+use Rattle.no_grammar.specs.Spelled.{spelled, kind_number, is_kind, is_word}
 use Rattle.no_grammar.specs.Types.{a_type, word_type}
 use Rattle.no_grammar.specs.Unescaped.{name_of}
-use Rattle.no_values.specs.Places.{or_function, or_global, symbol_named, symbol_of, int_width, width_of, truth_at, number_by, number_at, with_sign, is_flag, an_index, indices, gep_parts, bare_or, place_head, after_place_head, a_place}
-use Rattle.no_values.specs.Skipped.{behind}
+use Rattle.no_values.specs.Places.{or_global, symbol_named, symbol_of, int_width, width_of, truth_at, number_by, number_at, with_sign, is_flag, an_index, indices, gep_parts, bare_or, place_head, after_place_head, a_place}
 use Rattle.no_values.specs.declared.places.PlaceHead.{PlaceHead}
 use Rattle.no_values.specs.declared.places.PlaceHead.TheVariants.{Bare, Gep}
-use Rattle.no_print.specs.Names.{name_at, spelling, global_name, int_type, signed, fits_i32}
+use Rattle.no_print.specs.Names.{spelling, global_name, int_type, signed}
 use Rattle.no_print.specs.Pieces.{Piece, glued, spaced, word, sign, integer, comma, behind_commas}
 use Rattle.no_print.specs.Types.{type_pieces}
-use Rattle.no_print.specs.Constants.{Spelled, type_at, index_width, index_pieces, symbol_name, gep_place, place_by, place_pieces}
+use Rattle.no_print.specs.Constants.{index_width, index_pieces, symbol_name, place_pieces}
 use Rattle.no_reread.specs.Spells.{AreBytes, Spells, Again, over, spelled_by}
 use Rattle.no_reread.proofs.Bytes.{bytes_name, bytes_spelled}
 use Rattle.no_reread.proofs.Found.{name_there, bytes_drop}
 use Rattle.no_reread.proofs.Frame.{plain_spells, done_spells, then_spells, made_spells}
 use Rattle.no_reread.proofs.Items.{repeated_again}
-use Rattle.no_reread.proofs.Listing.{EachSpells, IsClose, word_spells, sign_spells, sign_begins, behind_spells}
+use Rattle.no_reread.proofs.Listing.{EachSpells, IsClose, word_spells, sign_spells, behind_spells}
 use Rattle.no_reread.proofs.Names.{name_again}
 use Rattle.no_reread.proofs.Numbers.{IndexAgain, index_again}
-use Rattle.no_reread.proofs.Opening.{kept_value, from_fine}
+use Rattle.no_reread.proofs.Opening.{kept_value}
 use Rattle.no_reread.proofs.Skipping as skipping
 use Rattle.no_reread.proofs.Standing.{Begins, begins, word_tested}
-use Rattle.no_reread.proofs.TypeHeads.{decimal_small}
 use Rattle.no_reread.proofs.TypesAgain.{Units, type_again}
-use Rattle.no_reread.proofs.Widths.{IsWidth, WordHead, word_head, half, full}
+use Rattle.no_reread.proofs.Widths.{IsWidth, word_head, half, full}
 
 -- ---- numbers at a width
 
@@ -118,7 +115,7 @@ width_small text token w e = by (is_kind kind.Word token) e
 pub width_spells : (text gap : List ℕ) (w : ℕ) → IsWidth w → Spells {S = Unit {0}} text (plain (width_of text)) tt (int_type gap w) w tt
 width_spells text gap w h =
     plain_spells {S = Unit {0}} text (λ k bytes. if kind_number k == kind_number kind.Word then int_width (word_type bytes) else Err Syntax) tt
-      (record { gap = gap; kind = kind.Word; bytes = 105 ∷ decimal w }) w (ap int_width h.reads)
+    (record { gap = gap; kind = kind.Word; bytes = 105 ∷ decimal w }) w (ap int_width h.reads)
 
 -- ---- indices
 
@@ -130,9 +127,9 @@ unfolding an_index
 index_spells m text i x =
     let number = plain_spells {S = Unit {0}} text (number_by (index_width i)) tt (record { gap = spaced; kind = kind.Integer; bytes = signed_decimal i }) x.number (subst (λ w. integer_at w (signed_decimal i) ≡ Ok x.number) x.written x.reads) in
     let made = then_spells text (plain (number_at text (index_width i))) (λ n. done (with_sign (index_width i) n)) tt tt tt (integer spaced (signed_decimal i)) [] x.number i number
-        (subst (λ j. Spells {S = Unit {0}} text (done (with_sign (index_width i) x.number)) tt [] j tt) (subst (λ w. signed w x.number ≡ i) x.written x.is) (done_spells text tt (with_sign (index_width i) x.number))) in
+    (subst (λ j. Spells {S = Unit {0}} text (done (with_sign (index_width i) x.number)) tt [] j tt) (subst (λ w. signed w x.number ≡ i) x.written x.is) (done_spells text tt (with_sign (index_width i) x.number))) in
     then_spells text (plain (width_of text)) (λ w. plain (number_at text w) >>= λ n. done (with_sign w n)) tt tt tt (int_type spaced (index_width i)) (integer spaced (signed_decimal i)) (index_width i) i
-      (width_spells text spaced (index_width i) (index_width_of i x)) made
+    (width_spells text spaced (index_width i) (index_width_of i x)) made
 
 index_read : (m : Meaning) (tokens : List Token) (i : ℤ) → (an_index m).means tt tokens i tt → IndexAgain i
 unfolding an_index
@@ -152,11 +149,11 @@ indices_spell : (m : Meaning) (text : List ℕ) (i : ℤ) (all : List ℤ) → S
 unfolding indices
 indices_spell m text i all x e =
     let others = made_spells text (repeat (more_item text (codes ")") (an_index (over m text)))) (λ l. i ∷ l) tt tt (behind_commas index_pieces all ++ sign glued (codes ")")) all
-        (behind_spells text (codes ")") glued (an_index (over m text)) parenthesis index_pieces tt tt all e) in
+    (behind_spells text (codes ")") glued (an_index (over m text)) parenthesis index_pieces tt tt all e) in
     subst (λ l. Spells text (an_index (over m text) >>= λ first. repeat (more_item text (codes ")") (an_index (over m text))) >>= λ others. done (first ∷ others)) tt l (i ∷ all) tt)
-      (sym (append_assoc (index_pieces i) (behind_commas index_pieces all) (sign glued (codes ")"))))
-      (then_spells text (an_index (over m text)) (λ first. repeat (more_item text (codes ")") (an_index (over m text))) >>= λ others. done (first ∷ others)) tt tt tt
-        (index_pieces i) (behind_commas index_pieces all ++ sign glued (codes ")")) i (i ∷ all) x others)
+    (sym (append_assoc (index_pieces i) (behind_commas index_pieces all) (sign glued (codes ")"))))
+    (then_spells text (an_index (over m text)) (λ first. repeat (more_item text (codes ")") (an_index (over m text))) >>= λ others. done (first ∷ others)) tt tt tt
+    (index_pieces i) (behind_commas index_pieces all ++ sign glued (codes ")")) i (i ∷ all) x others)
 
 -- indices are one and others
 record IndicesAre (m : Meaning) (text : List ℕ) (all : List ℤ) : Type 0 where
@@ -248,12 +245,12 @@ module _ (m : Meaning) (text : List ℕ) (bytes : AreBytes m.text) where
       let steps : List Piece = (index_pieces i ++ behind_commas index_pieces all) ++ sign glued (codes ")") in
       let name : List Piece = global_name spaced (symbol_name (spelled_by m) s) in
       then_spells text _ _ tt tt tt (sign spaced (codes "(")) (gep_rest s base i all) tt place (sign_spells text spaced tt (codes "(") refl)
-        (then_spells text _ _ tt tt tt (type_pieces m.named base glued) (comma ++ (word spaced (codes "ptr") ++ (name ++ (comma ++ steps)))) base place typed
-          (then_spells text _ _ tt tt tt comma (word spaced (codes "ptr") ++ (name ++ (comma ++ steps))) tt place (sign_spells text glued tt (codes ",") refl)
-            (then_spells text _ _ tt tt tt (word spaced (codes "ptr")) (name ++ (comma ++ steps)) tt place (word_spells text spaced tt (codes "ptr") refl)
-              (then_spells text _ _ tt tt tt name (comma ++ steps) s place (symbol_spells spaced s named)
-                (then_spells text _ _ tt tt tt comma steps tt place (sign_spells text glued tt (codes ",") refl)
-                  (made_spells text (indices (over m text)) (λ steps. record { symbol = s; base = base; indices = steps }) tt tt steps (i ∷ all) listed))))))
+      (then_spells text _ _ tt tt tt (type_pieces m.named base glued) (comma ++ (word spaced (codes "ptr") ++ (name ++ (comma ++ steps)))) base place typed
+      (then_spells text _ _ tt tt tt comma (word spaced (codes "ptr") ++ (name ++ (comma ++ steps))) tt place (sign_spells text glued tt (codes ",") refl)
+      (then_spells text _ _ tt tt tt (word spaced (codes "ptr")) (name ++ (comma ++ steps)) tt place (word_spells text spaced tt (codes "ptr") refl)
+      (then_spells text _ _ tt tt tt name (comma ++ steps) s place (symbol_spells spaced s named)
+      (then_spells text _ _ tt tt tt comma steps tt place (sign_spells text glued tt (codes ",") refl)
+      (made_spells text (indices (over m text)) (λ steps. record { symbol = s; base = base; indices = steps }) tt tt steps (i ∷ all) listed))))))
 
   record GepAgain (depth : ℕ) (place : Place) : Type 0 where
     pub rest : List Piece
@@ -270,7 +267,7 @@ module _ (m : Meaning) (text : List ℕ) (bytes : AreBytes m.text) where
       let s : Symbol = named.first in
       let x = indices_again m text listed.front listed.first listed.in_front in
       let y = gep_spells depth s base x.first x.others (symbol_read named.in_front.token s (kept_value tt (symbol_of m named.in_front.token) s tt named.in_front.value))
-          (type_again m text bytes depth glued tt tt tt typed.front base tt typed.in_front).2 x.spells in
+      (type_again m text bytes depth glued tt tt tt typed.front base tt typed.in_front).2 x.spells in
       let is : place ≡ record { symbol = s; base = base; indices = x.first ∷ x.others } = listed.in_back.1 ∙ ap (λ (l : List ℤ). let p : Place = record { symbol = s; base = base; indices = l } in p) x.are in
       subst (GepAgain depth) (sym is) (record { rest = gep_rest s base x.first x.others; are = λ gap. refl; spells = y })
 
@@ -280,8 +277,8 @@ module _ (m : Meaning) (text : List ℕ) (bytes : AreBytes m.text) where
   unfolding a_place
   after_again depth (Bare s) token tokens place gap e r =
       subst (λ (p : Place). Spells text (plain (place_head (over m text)) >>= after_place_head (over m text) depth) tt (place_pieces (spelled_by m) gap p) p tt) (sym r.1)
-        (then_spells text (plain (place_head (over m text))) (after_place_head (over m text) depth) tt tt tt (global_name gap (symbol_name (spelled_by m) s)) [] (Bare s) (record { symbol = s; base = ty.Void; indices = [] })
-          (bare_spells gap s (symbol_read token s (from_bare (symbol_of m token) (is_word m.text (codes "getelementptr") token) s e))) (done_spells text tt (record { symbol = s; base = ty.Void; indices = [] })))
+      (then_spells text (plain (place_head (over m text))) (after_place_head (over m text) depth) tt tt tt (global_name gap (symbol_name (spelled_by m) s)) [] (Bare s) (record { symbol = s; base = ty.Void; indices = [] })
+      (bare_spells gap s (symbol_read token s (from_bare (symbol_of m token) (is_word m.text (codes "getelementptr") token) s e))) (done_spells text tt (record { symbol = s; base = ty.Void; indices = [] })))
     where
       from_bare : (r : Result Symbol Flaw) (b : Bool) (s : Symbol) → bare_or r b ≡ Ok (Bare s) → r ≡ Ok s
       from_bare (Ok x) b s k = let same : x ≡ s = cc in ap (λ (y : Symbol). let r : Result Symbol Flaw = Ok y in r) same
@@ -290,8 +287,8 @@ module _ (m : Meaning) (text : List ℕ) (bytes : AreBytes m.text) where
   after_again depth Gep token tokens place gap e r =
       let x = gep_again depth r.back place r.read in
       subst (λ l. Spells text (plain (place_head (over m text)) >>= after_place_head (over m text) depth) tt l place tt) (sym (x.are gap))
-        (then_spells text (plain (place_head (over m text))) (after_place_head (over m text) depth) tt tt tt (word gap (codes "getelementptr")) (sign spaced (codes "(") ++ x.rest) Gep place (word_spelled gap)
-          (skipping.behind_spells text (is_flag text) (gep_parts (over m text) depth) tt (sign spaced (codes "(") ++ x.rest) place tt (no_flag spaced x.rest) x.spells))
+      (then_spells text (plain (place_head (over m text))) (after_place_head (over m text) depth) tt tt tt (word gap (codes "getelementptr")) (sign spaced (codes "(") ++ x.rest) Gep place (word_spelled gap)
+      (skipping.behind_spells text (is_flag text) (gep_parts (over m text) depth) tt (sign spaced (codes "(") ++ x.rest) place tt (no_flag spaced x.rest) x.spells))
 
   pub place_again : (depth : ℕ) (gap : List ℕ) → Again Units text (a_place m depth) (a_place (over m text) depth) (place_pieces (spelled_by m) gap)
   unfolding a_place

@@ -1,6 +1,6 @@
 -- What begins a type is spelled again.
-use Rattle.std.proofs.Common.{◌≡◌, ℕ, ◌+◌, ◌-◌, ◌*◌, ◌^◌, ◌<◌, ◌≤◌, Bool, true, false, ◌&&◌, ◌==◌, List, [], ◌∷◌, ◌++◌, drop, decimal, codes, position, bytes_eq, Option, Some, None, Result, Ok, Err, nat_le, if◌then◌else◌, refl, sym, ap, subst, ◌∙◌, arith}
-use Rattle.std.proofs.lemmas.Bool.{leb-true, and_parts}
+use Rattle.std.proofs.Common.{◌≡◌, ℕ, ◌+◌, ◌-◌, ◌*◌, ◌^◌, ◌<◌, ◌≤◌, Bool, true, false, ◌&&◌, ◌==◌, List, [], ◌∷◌, drop, decimal, codes, position, bytes_eq, Option, Some, None, Result, Ok, Err, nat_le, if◌then◌else◌, refl, sym, ap, subst, ◌∙◌, arith}
+use Rattle.std.proofs.lemmas.Bool.{leb-true}
 use Rattle.std.proofs.lemmas.Slice.Eq.{bytes_eq-Decides}
 use Rattle.no_lex.specs.declared.token.Token.{Token}
 use Rattle.no_lex.specs.declared.token.TokenKind.{TokenKind}
@@ -11,10 +11,10 @@ use Rattle.no_grammar.specs.declared.types.TypeHead.{TypeHead}
 use Rattle.no_grammar.specs.declared.types.TypeHead.TheVariants as head
 use Rattle.no_grammar.specs.Numbers.{number_from, is_negative, counted, count_of}
 use Rattle.no_grammar.specs.Numbers as numbers
-use Rattle.no_grammar.specs.Rules.{Rule, plain}
+use Rattle.no_grammar.specs.Rules.{plain}
 use Rattle.no_grammar.specs.Scope.{Meaning}
 use Rattle.no_grammar.specs.Spelled.{spelled, kind_number, is_kind, is_sign}
-use Rattle.no_grammar.specs.Types.{word_type, sign_type, named_type, number_in, head_by, type_head, count_token}
+use Rattle.no_grammar.specs.Types.{sign_type, named_type, number_in, head_by, type_head, count_token}
 use Rattle.no_grammar.specs.Unescaped.{name_of}
 use Rattle.no_print.specs.Names.{name_at, spelling, int_type, local_name}
 use Rattle.no_print.specs.Pieces.{Piece, word, sign, integer}

@@ -1,5 +1,5 @@
 -- The pieces of a type, form by form.
-use Rattle.std.proofs.Common.{◌≡◌, ℕ, Bool, true, false, List, [], ◌∷◌, ◌++◌, map, codes, refl, sym, ap, subst, ◌∙◌}
+use Rattle.std.proofs.Common.{◌≡◌, ℕ, Bool, List, [], ◌∷◌, ◌++◌, map, codes, refl, sym, ap, ◌∙◌}
 use Rattle.no_ir.specs.declared.types.Ty.{Ty, roll-Ty}
 use Rattle.no_ir.specs.declared.types.Ty.TheOpen.{Ty-F}
 use Rattle.no_ir.specs.declared.types.Ty.TheFolds.{fold-roll-Ty, map-Ty}
@@ -7,7 +7,7 @@ use Rattle.no_ir.specs.declared.types.Ty.TheVariants as ty
 use Rattle.no_ir.specs.declared.types.Ty.TheVariants.{rolls-Void, rolls-Int, rolls-Ptr, rolls-Array, rolls-Struct, rolls-Named}
 use Rattle.no_print.specs.Pieces.{Piece, spaced, word, sign, behind_commas, with_commas}
 use Rattle.no_print.specs.Names.{local_name, name_at, int_type}
-use Rattle.no_print.specs.Types.{in_braces, fields_with, struct_pieces, array_pieces, type_step, type_pieces}
+use Rattle.no_print.specs.Types.{struct_pieces, array_pieces, type_step, type_pieces}
 
 abbrev Spelling : Type 0
 Spelling = List ℕ → List Piece

@@ -1,5 +1,5 @@
 -- A type that was read is read again where it is spelled.
-use Rattle.std.proofs.Common.{◌≡◌, ℕ, suc, zero, ◌<◌, ◌^◌, Bool, true, false, List, [], ◌∷◌, ◌++◌, decimal, codes, Result, Ok, Err, refl, sym, ap, subst, ◌∙◌, append_assoc, append-nil}
+use Rattle.std.proofs.Common.{◌≡◌, ℕ, suc, zero, ◌<◌, ◌^◌, true, false, List, [], ◌∷◌, ◌++◌, decimal, codes, Result, Ok, Err, refl, sym, ap, subst, ◌∙◌, append-nil}
 use Rattle.no_lex.specs.declared.token.Token.{Token}
 use Rattle.no_ir.specs.declared.types.Ty.{Ty}
 use Rattle.no_ir.specs.declared.types.Ty.TheVariants as ty
@@ -14,14 +14,14 @@ use Rattle.no_grammar.specs.Spelled.{is_sign, a_word, a_sign}
 use Rattle.no_grammar.specs.Types.{sign_type, type_head, leaf_of, count_token, array_parts, struct_parts, packed_parts, after_type_head, a_type, must_be}
 use Rattle.no_grammar.proofs.TypeLaws.{type_solid}
 use Rattle.no_print.specs.Pieces.{Piece, glued, spaced, word, sign, integer, behind_commas, with_commas}
-use Rattle.no_print.specs.Types.{in_braces, struct_pieces, array_pieces, type_pieces}
+use Rattle.no_print.specs.Types.{in_braces, type_pieces}
 use Rattle.no_reread.specs.Spells.{AreBytes, Spells, Again, over}
 use Rattle.no_reread.proofs.Frame.{then_spells, made_spells, checked_spells, done_spells}
 use Rattle.no_reread.proofs.Items.{ItemsAre, items_are, items_again}
 use Rattle.no_reread.proofs.Listing.{IsClose, word_spells, sign_spells}
 use Rattle.no_reread.proofs.Opening.{Opens, kept_value, plain_opens, checked_opens, then_opens}
 use Rattle.no_reread.proofs.SameTypes.{must_again}
-use Rattle.no_reread.proofs.TypeHeads.{HeadAgain, head_again, head_pieces, head_spells, head_no_sign, count_small, count_spells}
+use Rattle.no_reread.proofs.TypeHeads.{head_again, head_pieces, head_spells, head_no_sign, count_small, count_spells}
 use Rattle.no_reread.proofs.TypePieces.{int_pieces, ptr_pieces, named_pieces, array_is, struct_is}
 
 -- ---- how types begin
@@ -80,23 +80,23 @@ module _ (m : Meaning) (text : List ℕ) (bytes : AreBytes m.text) where
   -- an array, behind its bracket
   array_spells : (depth n : ℕ) (element : Ty) → n < 2 ^ 32 → Spells text (a_type (over m text) depth) tt (type_pieces m.named element spaced) element tt
       → Spells text (array_parts (over m text) (a_type (over m text) depth)) tt
-          (integer glued (decimal n) ++ (word spaced (codes "x") ++ (type_pieces m.named element spaced ++ sign glued (codes "]")))) (ty.Array n element) tt
+      (integer glued (decimal n) ++ (word spaced (codes "x") ++ (type_pieces m.named element spaced ++ sign glued (codes "]")))) (ty.Array n element) tt
   unfolding array_parts
   array_spells depth n element small inner =
       then_spells text (plain (count_token text)) (λ n. a_word text (codes "x") >>= λ _. a_type (over m text) depth >>= λ element. a_sign text (codes "]") >>= λ _. done (ty.Array n element)) tt tt tt
-        (integer glued (decimal n)) (word spaced (codes "x") ++ (type_pieces m.named element spaced ++ sign glued (codes "]"))) n (ty.Array n element)
-        (count_spells text glued n small)
-        (then_spells text (a_word text (codes "x")) (λ _. a_type (over m text) depth >>= λ element. a_sign text (codes "]") >>= λ _. done (ty.Array n element)) tt tt tt
-          (word spaced (codes "x")) (type_pieces m.named element spaced ++ sign glued (codes "]")) tt (ty.Array n element)
-          (word_spells text spaced tt (codes "x") refl)
-          (then_spells text (a_type (over m text) depth) (λ element. a_sign text (codes "]") >>= λ _. done (ty.Array n element)) tt tt tt
-            (type_pieces m.named element spaced) (sign glued (codes "]")) element (ty.Array n element) inner
-            (then_spells text (a_sign text (codes "]")) (λ _. done (ty.Array n element)) tt tt tt (sign glued (codes "]")) [] tt (ty.Array n element)
-              (sign_spells text glued tt (codes "]") refl) (done_spells text tt (ty.Array n element)))))
+      (integer glued (decimal n)) (word spaced (codes "x") ++ (type_pieces m.named element spaced ++ sign glued (codes "]"))) n (ty.Array n element)
+      (count_spells text glued n small)
+      (then_spells text (a_word text (codes "x")) (λ _. a_type (over m text) depth >>= λ element. a_sign text (codes "]") >>= λ _. done (ty.Array n element)) tt tt tt
+      (word spaced (codes "x")) (type_pieces m.named element spaced ++ sign glued (codes "]")) tt (ty.Array n element)
+      (word_spells text spaced tt (codes "x") refl)
+      (then_spells text (a_type (over m text) depth) (λ element. a_sign text (codes "]") >>= λ _. done (ty.Array n element)) tt tt tt
+      (type_pieces m.named element spaced) (sign glued (codes "]")) element (ty.Array n element) inner
+      (then_spells text (a_sign text (codes "]")) (λ _. done (ty.Array n element)) tt tt tt (sign glued (codes "]")) [] tt (ty.Array n element)
+      (sign_spells text glued tt (codes "]") refl) (done_spells text tt (ty.Array n element)))))
 
   array_again : (depth : ℕ) (inner : Inner depth) (tokens : List Token) (t : Ty) → (array_parts m (a_type m depth)).means tt tokens t tt
       → (n : ℕ) × (element : Ty) × (t ≡ ty.Array n element) × Spells text (array_parts (over m text) (a_type (over m text) depth)) tt
-          (integer glued (decimal n) ++ (word spaced (codes "x") ++ (type_pieces m.named element spaced ++ sign glued (codes "]")))) (ty.Array n element) tt
+      (integer glued (decimal n) ++ (word spaced (codes "x") ++ (type_pieces m.named element spaced ++ sign glued (codes "]")))) (ty.Array n element) tt
   unfolding array_parts
   array_again depth inner tokens t r =
       let n : ℕ = r.first in
@@ -110,7 +110,7 @@ module _ (m : Meaning) (text : List ℕ) (bytes : AreBytes m.text) where
       → Spells text (items text (codes "}") (a_type (over m text) depth)) tt (with_commas (λ gap t. type_pieces m.named t gap) spaced all ++ sign (brace_gap all) (codes "}")) all tt
   fields_again depth inner tokens all r =
       (items_again Units m.text text (codes "}") (a_type m depth) (a_type (over m text) depth) (λ gap t. type_pieces m.named t gap) brace inner
-        (type_opens (over m text) depth (codes "}") refl) spaced (brace_gap all) tt tt tt tokens all tt r).2
+      (type_opens (over m text) depth (codes "}") refl) spaced (brace_gap all) tt tt tt tokens all tt r).2
 
   -- the first field has a piece
   field_pieces : (depth : ℕ) (inner : Inner depth) (tokens : List Token) (all : List Ty) → (items m.text (codes "}") (a_type m depth)).means tt tokens all tt → FirstHas (λ gap t. type_pieces m.named t gap) all
@@ -126,14 +126,14 @@ module _ (m : Meaning) (text : List ℕ) (bytes : AreBytes m.text) where
   -- fields in braces, with what a struct's rule behind the opening brace spells
   struct_again : (depth : ℕ) (inner : Inner depth) (tokens : List Token) (t : Ty) → (struct_parts m (a_type m depth)).means tt tokens t tt
       → (all : List Ty) × (t ≡ ty.Struct false all) × ((gap : List ℕ) → in_braces gap (fields_of all) ≡ sign gap (codes "{") ++ (fields_of all ++ sign (brace_gap all) (codes "}")))
-          × Spells text (struct_parts (over m text) (a_type (over m text) depth)) tt (fields_of all ++ sign (brace_gap all) (codes "}")) (ty.Struct false all) tt
+      × Spells text (struct_parts (over m text) (a_type (over m text) depth)) tt (fields_of all ++ sign (brace_gap all) (codes "}")) (ty.Struct false all) tt
   unfolding struct_parts
   struct_again depth inner tokens t r =
       let all : List Ty = r.first in (
         all,
         r.in_back.1,
         λ gap. braces_are gap (λ gap t. type_pieces m.named t gap) all (field_pieces depth inner r.front all r.in_front),
-        made_spells text (items text (codes "}") (a_type (over m text) depth)) (λ fields. ty.Struct false fields) tt tt (fields_of all ++ sign (brace_gap all) (codes "}")) all (fields_again depth inner r.front all r.in_front)
+        made_spells text (items text (codes "}") (a_type (over m text) depth)) (λ fields. ty.Struct false fields) tt tt (fields_of all ++ sign (brace_gap all) (codes "}")) all (fields_again depth inner r.front all r.in_front),
       )
 
   packed_again : (depth : ℕ) (inner : Inner depth) (tokens : List Token) (t : Ty) → (packed_parts m (a_type m depth)).means tt tokens t tt
@@ -146,9 +146,9 @@ module _ (m : Meaning) (text : List ℕ) (bytes : AreBytes m.text) where
       let braces = braces_are glued (λ gap t. type_pieces m.named t gap) all (field_pieces depth inner list.front all list.in_front) in
       let angle = then_spells text (a_sign text (codes ">")) (λ _. done (ty.Struct true all)) tt tt tt (sign glued (codes ">")) [] tt (ty.Struct true all) (sign_spells text glued tt (codes ">") refl) (done_spells text tt (ty.Struct true all)) in
       let listed = then_spells text (items text (codes "}") (a_type (over m text) depth)) (λ fields. a_sign text (codes ">") >>= λ _. done (ty.Struct true fields)) tt tt tt
-          (fields_of all ++ close) (sign glued (codes ">")) all (ty.Struct true all) (fields_again depth inner list.front all list.in_front) angle in
+      (fields_of all ++ close) (sign glued (codes ">")) all (ty.Struct true all) (fields_again depth inner list.front all list.in_front) angle in
       let whole = then_spells text (a_sign text (codes "{")) (λ _. items text (codes "}") (a_type (over m text) depth) >>= λ fields. a_sign text (codes ">") >>= λ _. done (ty.Struct true fields)) tt tt tt
-          (sign glued (codes "{")) ((fields_of all ++ close) ++ sign glued (codes ">")) tt (ty.Struct true all) (sign_spells text glued tt (codes "{") refl) listed in
+      (sign glued (codes "{")) ((fields_of all ++ close) ++ sign glued (codes ">")) tt (ty.Struct true all) (sign_spells text glued tt (codes "{") refl) listed in
       (all, list.in_back.in_back.1, subst (λ l. Spells text (packed_parts (over m text) (a_type (over m text) depth)) tt (l ++ sign glued (codes ">")) (ty.Struct true all) tt) (sym braces) whole)
 
   -- ---- whole types
@@ -168,7 +168,7 @@ module _ (m : Meaning) (text : List ℕ) (bytes : AreBytes m.text) where
   flat_again gap tokens t r =
       let head_is = head_again m bytes r.read.token r.value (kept_value tt (type_head m r.read.token) r.value tt r.read.value) in
       subst (λ l. Spells text (flat (over m text)) tt l t tt) (sym (leaf_again gap r.value t r.passes))
-        (checked_spells text (plain (type_head (over m text))) leaf_of tt tt (head_pieces m gap r.value) r.value t (head_spells m text gap r.value head_is) r.passes)
+      (checked_spells text (plain (type_head (over m text))) leaf_of tt tt (head_pieces m gap r.value) r.value t (head_spells m text gap r.value head_is) r.passes)
 
   -- what stands behind the beginning of a type
   record RestAgain (depth : ℕ) (h : TypeHead) (t : Ty) : Type 0 where
@@ -180,7 +180,7 @@ module _ (m : Meaning) (text : List ℕ) (bytes : AreBytes m.text) where
       → Spells {S = Unit {0}} text (done found) tt [] found tt → (pieces : List Piece) × ((gap : List ℕ) → type_pieces m.named t gap ≡ head_pieces m gap h ++ pieces) × Spells {S = Unit {0}} text (done found) tt pieces t tt
   named_rest depth h found t is are spells =
       let both : (t : Ty) → t ≡ found → (pieces : List Piece) × ((gap : List ℕ) → type_pieces m.named t gap ≡ head_pieces m gap h ++ pieces) × Spells {S = Unit {0}} text (done found) tt pieces t tt = λ t e.
-          ([], λ gap. ap (λ (u : Ty). type_pieces m.named u gap) e ∙ are gap ∙ sym (append-nil (head_pieces m gap h)), subst (λ u. Spells {S = Unit {0}} text (done found) tt [] u tt) (sym e) spells) in
+      ([], λ gap. ap (λ (u : Ty). type_pieces m.named u gap) e ∙ are gap ∙ sym (append-nil (head_pieces m gap h)), subst (λ u. Spells {S = Unit {0}} text (done found) tt [] u tt) (sym e) spells) in
       both t is
 
   rest_again : (depth : ℕ) (inner : Inner depth) (h : TypeHead) (tokens : List Token) (t : Ty) → (after_type_head m (a_type m depth) h).means tt tokens t tt → RestAgain depth h t
@@ -217,9 +217,12 @@ module _ (m : Meaning) (text : List ℕ) (bytes : AreBytes m.text) where
   type_again zero gap s z t tokens ty like r = (tt, tt, flat_again gap tokens ty r)
   type_again (suc depth) gap s z t tokens ty like r =
       let head_is = head_again m bytes r.in_front.token r.first (kept_value tt (type_head m r.in_front.token) r.first tt r.in_front.value) in
-      let x = rest_again depth (type_again depth) r.first r.back ty r.in_back in
-      (tt, tt, subst (λ l. Spells text (plain (type_head (over m text)) >>= after_type_head (over m text) (a_type (over m text) depth)) tt l ty tt) (sym (x.are gap))
-        (then_spells text (plain (type_head (over m text))) (after_type_head (over m text) (a_type (over m text) depth)) tt tt tt (head_pieces m gap r.first) x.pieces r.first ty (head_spells m text gap r.first head_is) x.spells))
+      let x = rest_again depth (type_again depth) r.first r.back ty r.in_back in (
+        tt,
+        tt,
+        subst (λ l. Spells text (plain (type_head (over m text)) >>= after_type_head (over m text) (a_type (over m text) depth)) tt l ty tt) (sym (x.are gap))
+            (then_spells text (plain (type_head (over m text))) (after_type_head (over m text) (a_type (over m text) depth)) tt tt tt (head_pieces m gap r.first) x.pieces r.first ty (head_spells m text gap r.first head_is) x.spells),
+      )
 
   -- a type that has to be another
   pub same_again : (depth : ℕ) (want : Ty) (gap : List ℕ) (tokens : List Token) → (checked (a_type m depth) (must_be want)).means tt tokens tt tt

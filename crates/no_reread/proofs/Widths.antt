@@ -1,5 +1,5 @@
 -- The words of types that are read again.
-use Rattle.std.proofs.Common.{◌≡◌, ℕ, ◌<◌, ◌≤◌, Bool, true, false, List, [], ◌∷◌, decimal, codes, bytes_eq, Result, Ok, Err, if◌then◌else◌, refl, sym, ap, subst, ◌∙◌, arith}
+use Rattle.std.proofs.Common.{◌≡◌, ℕ, ◌<◌, ◌≤◌, Bool, true, false, List, ◌∷◌, decimal, codes, bytes_eq, Result, Ok, Err, if◌then◌else◌, refl, subst, arith}
 use Rattle.std.specs.Fmt.{digits}
 use Rattle.no_grammar.specs.declared.fault.Flaw.{Flaw}
 use Rattle.no_grammar.specs.declared.fault.Flaw.TheVariants.{Syntax, LeftOut}

@@ -13,6 +13,3 @@ mod watchers;
 
 pub use definition::{Definition, Lifting};
 pub use lifted::{Lifted, definitions, definitions_are_exact};
-
-#[cfg(test)]
-mod tests;

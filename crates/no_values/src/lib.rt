@@ -8,6 +8,3 @@ pub use constants::{
     ConstHead, LeafHead, Shape, a_const, at_most_one_constant, constants_are_exact,
 };
 pub use places::{PlaceHead, a_place, begins_place, number_at, skip_flags, symbol, width_of};
-
-#[cfg(test)]
-mod tests;

@@ -1,2 +1,3 @@
 mod Later
 mod Firsts
+pub mod Unique

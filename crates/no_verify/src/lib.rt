@@ -4,6 +4,8 @@
 mod fault;
 mod judge;
 mod sound;
+#[cfg(test)]
+mod tests;
 mod unassigned;
 mod verdict;
 

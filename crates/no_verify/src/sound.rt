@@ -1,4 +1,5 @@
-ghost use Rattle.std.specs.Prelude.{◌≡◌};
+ghost use Rattle.std.specs.Prelude.{◌≡◌, true};
+ghost use Rattle.no_layout.specs.Text.{is_formed};
 ghost use Rattle.no_verify.specs.Verdict.{IsAccepted};
 
 use no_ir::{Module, Role};
@@ -15,6 +16,8 @@ pub struct Sound {
 }
 
 impl Model for Sound {
+    ghost use Rattle.std.specs.Prelude.{◌≡◌, true};
+    ghost use Rattle.no_layout.specs.Text.{is_formed};
     ghost use Rattle.no_semantics.specs.Accepted.{Accepted};
     ghost use Rattle.no_verify.specs.Verdict.{IsAccepted};
 
@@ -28,13 +31,14 @@ impl Model for Sound {
 
     ghost view = { λ s. record { «module» = s.inner; layout = s.layout; sizes = s.sizes; role = s.role } };
 
-    ghost invariant = { λ s. IsAccepted s.inner s.role (record { «module» = s.inner; layout = s.layout; sizes = s.sizes; role = s.role }) };
+    ghost invariant = { λ s. (is_formed s.layout ≡ true) × IsAccepted s.inner s.role (record { «module» = s.inner; layout = s.layout; sizes = s.sizes; role = s.role }) };
 }
 
 impl Sound {
     /// An accepted module with the layout that its string states and the sizes of its named types. It takes no memory.
     pub(crate) fn of(program: Module, layout: Layout, sizes: Sizes, role: Role) -> Sound
-        requires { IsAccepted program role (record { «module» = program; layout = layout; sizes = sizes; role = role }) }
+        requires formed { is_formed layout ≡ true }
+        requires accepted { IsAccepted program role (record { «module» = program; layout = layout; sizes = sizes; role = role }) }
         ensures { result ≡ record { «module» = program; layout = layout; sizes = sizes; role = role } }
     {
         Sound {
@@ -54,7 +58,8 @@ impl Sound {
 
     /// The layout that the module's string states.
     pub fn layout(&self) -> &Layout
-        ensures { result.now ≡ self.now.layout }
+        ensures value { result.now ≡ self.now.layout }
+        ensures formed { is_formed result.now ≡ true }
     {
         &self.layout
     }
@@ -70,5 +75,22 @@ impl Sound {
         ensures { result ≡ self.now.role }
     {
         self.role
+    }
+
+    /// The module, its layout, the sizes of its named types, and its role. It takes no memory.
+    pub fn into_parts(self) -> (Module, Layout, Sizes, Role)
+        ensures program { result.0 ≡ self.«module» }
+        ensures layout { result.1 ≡ self.layout }
+        ensures sizes { result.2 ≡ self.sizes }
+        ensures role { result.3 ≡ self.role }
+        ensures formed { is_formed result.1 ≡ true }
+    {
+        let Sound {
+            inner,
+            layout,
+            sizes,
+            role,
+        } = self;
+        (inner, layout, sizes, role)
     }
 }

@@ -1,3 +1,4 @@
+use Rattle.no_reread.proofs.ConstFirst.{read_fits}
 use Rattle.no_reread.proofs.TypesAgain.{type_again, same_again}
 use Rattle.no_reread.proofs.types.types_mean_again.Goals as goal
 
@@ -6,3 +7,6 @@ returns-clause-any c m text depth gap tokens t bytes r = (type_again m text byte
 
 pub returns-clause-wanted : goal.returns-clause-wanted
 returns-clause-wanted c m text depth gap tokens want bytes r = same_again m text bytes depth want gap tokens r
+
+pub returns-clause-fits : goal.returns-clause-fits
+returns-clause-fits c = read_fits

@@ -6,8 +6,8 @@ use Rattle.no_verify.specs.declared.fault.VerifyKind.TheVariants as kind
 use Rattle.no_verify.proofs.Firsts.{later_first, later_nowhere}
 use Rattle.no_verify.proofs.verdict.under.Goals as goal
 
-pub of-requires : goal.of-requires
-of-requires c =
+pub of-requires-clause-accepted : goal.of-requires-clause-accepted
+of-requires-clause-accepted c =
     let large : IsLargeAnswer c.args.layout c.args.program (Ok c.in-Ok-Ok.sizes) = subst (IsLargeAnswer c.args.layout c.args.program) c.in-Ok-Ok.field-0-is c.in-Ok-Ok.ensures in
     record {
       module_is = refl;

@@ -1,0 +1,15 @@
+pub mod Attributes
+pub mod Constants
+pub mod Forms
+pub mod Globals
+pub mod Groups
+pub mod Heads
+pub mod Instructions
+pub mod Marks
+pub mod Named
+pub mod Operands
+pub mod Places
+pub mod RuleMoves
+pub mod Spots
+pub mod Tops
+pub mod Types

@@ -1,0 +1,17 @@
+use Rattle.std.proofs.Common.{ℕ, List, ◌++◌, sym, ap, codes}
+use Rattle.no_ir.specs.declared.types.Ty.{Ty}
+use Rattle.no_print.specs.Scopes.{spelled_by}
+use Rattle.no_print.specs.Modules.{attributes, blocks_pieces, head_pieces, locals_of, param_pieces}
+use Rattle.no_print.specs.Pieces.{glued, lined, sign, spaced, with_commas}
+use Rattle.no_print.proofs.Appending.{left_from, left_last, left_more}
+use Rattle.no_print.proofs.functions.put_defined.Goals as goal
+
+pub returns : goal.returns
+returns c =
+    left_last _ _ _ _ _ c.in_ok-put_body.ensures (
+    left_more _ _ _ _ _ _ c.in_ok-put_sign-2.ensures (
+    left_more _ _ _ _ _ _ c.in_ok-put_params.ensures (
+    left_more _ _ _ _ _ _ c.in_ok-put_sign.ensures (
+    left_more _ _ _ _ _ _ c.in_ok-put_head.ensures (
+    left_from _ _ _ (ap (λ (xs : List (ℕ × Ty)). head_pieces (spelled_by c.args.scope.now) (codes "define") c.args.f.now ++ (sign glued (codes "(") ++ (with_commas (param_pieces (spelled_by c.args.scope.now) c.args.f.now.registers) glued xs ++ (sign glued (codes ")")
+    ++ (attributes c.args.f.now ++ (sign spaced (codes "{") ++ (blocks_pieces (spelled_by c.args.scope.now) (locals_of c.args.f.now) c.args.f.now.blocks ++ sign lined (codes "}")))))))) (sym c.as_slice.ensures)))))))

@@ -1,0 +1,11 @@
+use Rattle.no_print.proofs.Appending.{left_all, left_last, left_more}
+use Rattle.no_print.proofs.operands.put_pair.Goals as goal
+
+pub returns : goal.returns
+returns c =
+    left_last _ _ _ _ _ c.in_ok-put_sign-2.ensures (
+    left_more _ _ _ _ _ _ c.in_ok-put_target.ensures (
+    left_more _ _ _ _ _ _ c.in_ok-put_comma.ensures (
+    left_more _ _ _ _ _ _ c.in_ok-put_operand.ensures (
+    left_more _ _ _ _ _ _ c.in_ok-put_sign.ensures (
+    left_all _ _)))))

@@ -1,0 +1,8 @@
+use Rattle.no_print.proofs.Appending.{left_all, left_last, left_more}
+use Rattle.no_print.proofs.operands.put_typed.Goals as goal
+
+pub returns : goal.returns
+returns c =
+    left_last _ _ _ _ _ c.in_ok-put_operand.ensures (
+    left_more _ _ _ _ _ _ c.in_ok-put_type.ensures (
+    left_all _ _))

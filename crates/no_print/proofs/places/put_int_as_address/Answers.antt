@@ -1,0 +1,11 @@
+use Rattle.no_print.proofs.Appending.{left_all, left_last, left_more}
+use Rattle.no_print.proofs.places.put_int_as_address.Goals as goal
+
+pub returns : goal.returns
+returns c =
+    left_last _ _ _ _ _ c.in_ok-put_to_pointer.ensures (
+    left_more _ _ _ _ _ _ c.in_ok-put_signed.ensures (
+    left_more _ _ _ _ _ _ c.in_ok-put_int_type.ensures (
+    left_more _ _ _ _ _ _ c.in_ok-put_sign.ensures (
+    left_more _ _ _ _ _ _ c.in_ok-put_word.ensures (
+    left_all _ _)))))

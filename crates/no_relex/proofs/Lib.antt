@@ -1,0 +1,10 @@
+mod Constants
+mod Ends
+mod Forms
+mod Heads
+mod Instructions
+mod Lexing
+mod Modules
+mod Spellings
+mod Taking
+mod Types

@@ -1,0 +1,13 @@
+pub mod Amounts
+pub mod Bodies
+pub mod Forms
+pub mod Functions
+pub mod Globals
+pub mod Heads
+pub mod Marks
+pub mod Modules
+pub mod Params
+pub mod Steps
+pub mod Tails
+pub mod Tops
+pub mod Within

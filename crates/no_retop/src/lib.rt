@@ -1,0 +1,19 @@
+//! What was read is read again where it is printed: globals, heads of functions, top forms and whole modules.
+#![tactic(auto)]
+
+ghost use Rattle.std.specs.Prelude.{ℕ, List};
+ghost use Rattle.no_ir.specs.declared.function.Module.{Module};
+ghost use Rattle.no_ir.specs.declared.function.Role.{Role};
+ghost use Rattle.no_ir.specs.declared.types.Ty.{Ty};
+ghost use Rattle.no_lex.specs.declared.token.Token.{Token};
+ghost use Rattle.no_grammar.specs.Scope.{Meaning};
+ghost use Rattle.no_modules.specs.Modules.{IsModuleOf};
+ghost use Rattle.no_print.specs.Stand.{Stand};
+ghost use Rattle.no_reread.specs.Spells.{AreBytes, TypesFit, over, spelled_by};
+ghost use Rattle.no_retop.specs.Printed.{form_pieces};
+
+/// A module that was read from a text of bytes is read again in the same role from any other text whose tokens stand as the
+/// module's layout, globals and functions are spelled, where the names of types, globals and functions mean the same.
+pub fn modules_mean_again()
+    ensures { (m : Meaning) (text : List ℕ) (role : Role) (types : List (List ℕ × Ty)) (tokens others : List Token) (found : Module) → AreBytes m.text → TypesFit m.types → IsModuleOf m role types tokens found → Stand text others (form_pieces (spelled_by m) found) → IsModuleOf (over m text) role types others found }
+{}
