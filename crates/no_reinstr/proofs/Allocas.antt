@@ -1,7 +1,6 @@
 -- `alloca` is read again behind its word: a count, an alignment, and what follows an instruction.
-use Rattle.std.proofs.Common.{◌≡◌, ℕ, suc, zero, ◌≤◌, ◌<◌, ◌^◌, Bool, true, false, not, ◌&&◌, ◌==◌, List, [], ◌∷◌, ◌++◌, codes, decimal, Option, Some, None, Result, Ok, Err, inl, inr, if◌then◌else◌, refl, sym, ap, subst, ◌∙◌, append_assoc, arith}
+use Rattle.std.proofs.Common.{◌≡◌, ℕ, suc, zero, ◌≤◌, Bool, true, false, not, ◌&&◌, ◌==◌, List, ◌++◌, codes, decimal, Option, Some, None, Result, Ok, Err, inl, inr, if◌then◌else◌, refl, sym, ap, subst, ◌∙◌, append_assoc, arith}
 use Rattle.no_lex.specs.declared.token.Token.{Token}
-use Rattle.no_lex.specs.declared.token.TokenKind.{TokenKind}
 use Rattle.no_lex.specs.declared.token.TokenKind.TheVariants as kind
 use Rattle.no_ir.specs.declared.function.Role.{Role}
 use Rattle.no_ir.specs.declared.function.Role.TheVariants.{Source, Part}
@@ -12,7 +11,7 @@ use Rattle.no_ir.specs.declared.instruction.Op.TheVariants as op
 use Rattle.no_grammar.specs.declared.fault.Flaw.{Flaw}
 use Rattle.no_grammar.specs.declared.fault.Flaw.TheVariants.{Syntax, Number}
 use Rattle.no_grammar.specs.Numbers as numbers
-use Rattle.no_grammar.specs.Rules.{Rule, plain, done, ◌>>=◌, lift, if_next}
+use Rattle.no_grammar.specs.Rules.{Rule, if_next}
 use Rattle.no_grammar.specs.Scope.{Meaning}
 use Rattle.no_grammar.specs.Spelled.{spelled, kind_number, is_kind, is_word}
 use Rattle.no_attrs.specs.Attributes.{is_alignment, aligned, alignment_of}
@@ -22,7 +21,7 @@ use Rattle.no_forms.specs.Operands.{sized_operand}
 use Rattle.no_forms.specs.Ends.{is_comma, an_alignment, an_attachment}
 use Rattle.no_forms.specs.Folded.{AreSteps, folded}
 use Rattle.no_forms.specs.Memory.{opens_alignment, opens_count, stated_alignment, stated_count, alloca_attachment, count_or_attachment, alloca_step, alloca_start, alloca}
-use Rattle.no_print.specs.Pieces.{Piece, spaced, glued, comma, word, integer}
+use Rattle.no_print.specs.Pieces.{Piece, spaced, comma, word, integer}
 use Rattle.no_print.specs.Constants.{type_at}
 use Rattle.no_print.specs.Instructions.{inserted_pieces, alignment_pieces, count_pieces, sized}
 use Rattle.no_reread.specs.Spells.{AreBytes, Spells, TypesFit, over, spelled_by}
@@ -79,8 +78,8 @@ alignment_spells text n h =
     let most : n ≤ 65536 = h.most in
     let again : numbers.decimal 65536 (decimal n) ≡ Some n = decimal_again 65536 n (omega arith) most in
     then_spells text _ _ tt tt tt (word spaced (codes "align")) (integer spaced (decimal n)) tt n (word_spells text spaced tt (codes "align") refl)
-      (plain_spells {S = Unit {0}} text (λ k bytes. if kind_number k == kind_number kind.Integer then aligned (numbers.decimal 65536 bytes) else Err Syntax) tt
-        (record { gap = spaced; kind = kind.Integer; bytes = decimal n }) n (ap aligned again ∙ h.passes))
+    (plain_spells {S = Unit {0}} text (λ k bytes. if kind_number k == kind_number kind.Integer then aligned (numbers.decimal 65536 bytes) else Err Syntax) tt
+    (record { gap = spaced; kind = kind.Integer; bytes = decimal n }) n (ap aligned again ∙ h.passes))
 
 -- ---- what follows the type
 
@@ -161,7 +160,7 @@ module _ (m : Meaning) (text : List ℕ) (bytes : AreBytes m.text) (fit : TypesF
   unfolding alloca_step alloca_attachment
   marked c a n l =
       then_returns (comma_back text last refl) (no_returns (no_alignment (end_of c a n l)) (no_returns (no_count (end_of c a n l))
-        (made_returns (lifted (an_attachment text Part false) refl (attachment_spells text)))))
+      (made_returns (lifted (an_attachment text Part false) refl (attachment_spells text)))))
 
 mark_back : (m : Meaning) (text : List ℕ) (bytes : AreBytes m.text) (fit : TypesFit m.types) (last : Locals) (role : Role) (c a : Bool) (n : Option (ℕ × Operand)) (l : Option ℕ) (b : Bool) → MarkFits role b → {s : Locals}
     → Returns text last (folded (is_comma text) (alloca_step (over m text) role) (end_of c a n l)) (inserted_pieces b) (closed_by (end_of c a n l) b) s s
@@ -349,5 +348,5 @@ module _ (m : Meaning) (text : List ℕ) (bytes : AreBytes m.text) (fit : TypesF
         are = λ gap. refl;
         back = ending e.in_back.2 (pieces_are (stretched shown (count_shown all.count) (alignment_pieces all.align) (inserted_pieces all.inserted))
             (then_returns (type_back m text bytes fit last spaced r.front of r.in_front)
-              (given same (made_returns {g = λ (v : AllocaEnd). let p : Op × Bool = (op.Alloca of v.count v.align, v.inserted) in p} y.back))));
+            (given same (made_returns {g = λ (v : AllocaEnd). let p : Op × Bool = (op.Alloca of v.count v.align, v.inserted) in p} y.back))));
       })

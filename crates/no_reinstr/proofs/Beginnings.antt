@@ -1,28 +1,25 @@
 -- With which tokens types and constants begin.
-use Rattle.std.proofs.Common.{◌≡◌, ℕ, suc, zero, Bool, true, false, ◌&&◌, ◌||◌, ◌==◌, List, [], ◌∷◌, ◌++◌, bytes_eq, codes, Option, Some, None, Result, Ok, Err, if◌then◌else◌, refl, sym, ap, subst, ◌∙◌}
+use Rattle.std.proofs.Common.{◌≡◌, ℕ, suc, zero, Bool, true, false, ◌&&◌, ◌==◌, List, bytes_eq, codes, Result, Ok, Err, if◌then◌else◌, refl, sym, subst}
 use Rattle.std.proofs.lemmas.Slice.Eq.{bytes_eq-Decides}
 use Rattle.no_lex.specs.declared.token.Token.{Token}
 use Rattle.no_lex.specs.declared.token.TokenKind.{TokenKind}
 use Rattle.no_lex.specs.declared.token.TokenKind.TheVariants as kind
 use Rattle.no_ir.specs.declared.types.Ty.{Ty}
-use Rattle.no_ir.specs.declared.constant.Symbol.{Symbol}
 use Rattle.no_grammar.specs.declared.fault.Flaw.{Flaw}
 use Rattle.no_grammar.specs.declared.fault.Flaw.TheVariants.{Syntax, LeftOut}
 use Rattle.no_grammar.specs.declared.types.TypeHead.{TypeHead}
-use Rattle.no_grammar.specs.declared.types.TypeHead.TheVariants as head
-use Rattle.no_grammar.specs.Rules.{Rule, plain, ◌>>=◌, if_next}
+use Rattle.no_grammar.specs.Rules.{plain}
 use Rattle.no_grammar.specs.Scope.{Meaning}
 use Rattle.no_grammar.specs.Spelled.{spelled, kind_number, is_kind, is_word}
 use Rattle.no_grammar.specs.Types.{word_type, head_by, type_head, leaf_of, after_type_head, a_type}
-use Rattle.no_values.specs.Places.{symbol_named, symbol_of, bare_or, place_head, after_place_head, a_place, truth_at, begins_place}
+use Rattle.no_values.specs.Places.{symbol_named, bare_or, place_head, after_place_head, a_place, truth_at, begins_place}
 use Rattle.no_values.specs.declared.places.PlaceHead.{PlaceHead}
-use Rattle.no_values.specs.Constants.{resolved, shape_of, zero_at, null_at, word_at, word_const, integer_in, leaf_by, leaf_head, bracket_at, as_leaf, const_by, const_head, after_leaf, address, after_head, flat_const, bracket_const, a_const}
+use Rattle.no_values.specs.Constants.{resolved, shape_of, word_at, word_const, leaf_by, leaf_head, as_leaf, const_by, const_head, after_leaf, address, after_head, flat_const, bracket_const, a_const}
 use Rattle.no_values.specs.declared.constants.Shape.{Shape}
 use Rattle.no_values.specs.declared.constants.Shape.TheVariants as shape
 use Rattle.no_values.specs.declared.constants.LeafHead.{LeafHead}
 use Rattle.no_values.specs.declared.constants.ConstHead.{ConstHead}
 use Rattle.no_attrs.specs.Attributes.{begins_by, begins_attribute}
-use Rattle.no_attrs.specs.Words.{is_attribute_word}
 use Rattle.no_reread.proofs.Opening.{Opens, plain_opens, then_opens, checked_opens, if_next_opens}
 
 -- a property of a word that is one of these
@@ -188,18 +185,18 @@ module _ (test : TokenKind → List ℕ → Bool) (no : NoConst test) where
   unfolding address a_place
   address_begins m depth =
       then_opens (by_test test m.text) false _ _ (then_opens (by_test test m.text) false (plain (place_head m)) (after_place_head m depth)
-        (plain_opens (by_test test m.text) false (place_head m) (λ token h e. no_place m token.kind (spelled m.text token) _ h e)))
+      (plain_opens (by_test test m.text) false (place_head m) (λ token h e. no_place m token.kind (spelled m.text token) _ h e)))
 
   const_begins : (m : Meaning) (depth : ℕ) (t : Ty) → Opens (by_test test m.text) false (a_const m depth t)
   unfolding a_const
   const_begins m zero t =
       if_next_opens (by_test test m.text) false (begins_place m.text) (address m zero) (flat_const m t) (address_begins m zero)
-        (then_opens (by_test test m.text) false (plain (leaf_head m.text (shape_of (resolved m t)))) (after_leaf m zero t)
-          (plain_opens (by_test test m.text) false (leaf_head m.text (shape_of (resolved m t))) (λ token l e. no_leaf (shape_of (resolved m t)) token.kind (spelled m.text token) l e)))
+      (then_opens (by_test test m.text) false (plain (leaf_head m.text (shape_of (resolved m t)))) (after_leaf m zero t)
+      (plain_opens (by_test test m.text) false (leaf_head m.text (shape_of (resolved m t))) (λ token l e. no_leaf (shape_of (resolved m t)) token.kind (spelled m.text token) l e)))
   const_begins m (suc depth) t =
       if_next_opens (by_test test m.text) false (begins_place m.text) (address m (suc depth)) (bracket_const m depth (a_const m depth) t) (address_begins m (suc depth))
-        (then_opens (by_test test m.text) false (plain (const_head m.text (shape_of (resolved m t)))) (after_head m depth (a_const m depth) t)
-          (plain_opens (by_test test m.text) false (const_head m.text (shape_of (resolved m t))) (λ token h e. no_bracket (shape_of (resolved m t)) token.kind (spelled m.text token) h e)))
+      (then_opens (by_test test m.text) false (plain (const_head m.text (shape_of (resolved m t)))) (after_head m depth (a_const m depth) t)
+      (plain_opens (by_test test m.text) false (const_head m.text (shape_of (resolved m t))) (λ token h e. no_bracket (shape_of (resolved m t)) token.kind (spelled m.text token) h e)))
 
 abbrev kind_test : TokenKind → TokenKind → List ℕ → Bool
 kind_test want k bytes = kind_number k == kind_number want
@@ -208,12 +205,18 @@ pub const_no_local : (m : Meaning) (depth : ℕ) (t : Ty) → Opens (is_kind kin
 const_no_local m depth t =
     const_begins (kind_test kind.Local) (record {
       words = record { undefined = refl; poison = refl; zeros = refl; null = refl; from_pointer = refl; to_pointer = refl; yes = refl; no = refl; address = refl };
-      integers = λ bytes. refl; marks = λ bytes. refl; signs = λ bytes. refl; globals = λ bytes. refl;
+      integers = λ bytes. refl;
+      marks = λ bytes. refl;
+      signs = λ bytes. refl;
+      globals = λ bytes. refl;
     }) m depth t
 
 pub const_no_attribute : (m : Meaning) (depth : ℕ) (t : Ty) → Opens (begins_attribute m.text) false (a_const m depth t)
 const_no_attribute m depth t =
     const_begins begins_by (record {
       words = record { undefined = refl; poison = refl; zeros = refl; null = refl; from_pointer = refl; to_pointer = refl; yes = refl; no = refl; address = refl };
-      integers = λ bytes. refl; marks = λ bytes. refl; signs = λ bytes. refl; globals = λ bytes. refl;
+      integers = λ bytes. refl;
+      marks = λ bytes. refl;
+      signs = λ bytes. refl;
+      globals = λ bytes. refl;
     }) m depth t

@@ -1,16 +1,16 @@
 -- Bodies of functions are read again.
-use Rattle.std.proofs.Common.{◌≡◌, ℕ, Bool, true, false, List, [], ◌∷◌, ◌++◌, codes, Option, Some, None, inl, inr, refl, sym, ap, subst, ◌∙◌, append_assoc, append-nil}
+use Rattle.std.proofs.Common.{◌≡◌, ℕ, true, false, List, [], ◌∷◌, ◌++◌, codes, Option, Some, None, inl, inr, refl, sym, ap, subst, ◌∙◌, append_assoc, append-nil}
 use Rattle.no_lex.specs.declared.token.Token.{Token}
 use Rattle.no_lex.specs.declared.token.TokenKind.TheVariants as kind
 use Rattle.no_ir.specs.declared.function.Block.{Block}
 use Rattle.no_ir.specs.declared.function.Role.{Role}
 use Rattle.no_ir.specs.declared.instruction.Instr.{Instr}
 use Rattle.no_grammar.specs.Repeated.{IsRepeated, repeat}
-use Rattle.no_grammar.specs.Rules.{Rule, plain, done, ◌>>=◌, if_next}
+use Rattle.no_grammar.specs.Rules.{Rule}
 use Rattle.no_grammar.specs.Scope.{Meaning}
-use Rattle.no_grammar.specs.Spelled.{is_kind, is_sign, only_where, a_sign}
+use Rattle.no_grammar.specs.Spelled.{is_sign, only_where, a_sign}
 use Rattle.no_locals.specs.declared.locals.Locals.{Locals}
-use Rattle.no_locals.specs.Numbered.{a_block_label, no_block_label}
+use Rattle.no_locals.specs.Numbered.{a_block_label}
 use Rattle.no_instr.specs.Instructions.{an_instr}
 use Rattle.no_blocks.specs.declared.blocks.Piece as blocks
 use Rattle.no_blocks.specs.declared.blocks.Piece.TheVariants as piece
@@ -25,23 +25,23 @@ use Rattle.no_reread.proofs.Opening.{kept_state}
 use Rattle.no_reread.proofs.Standing.{Begins, begins, kind_tested, sign_tested}
 use Rattle.no_reinstr.specs.States.{Like, Follows, IsFine, named_by}
 use Rattle.no_reinstr.proofs.Registers.{block_label_again, no_block_label_again}
-use Rattle.no_reinstr.proofs.Returning.{Returns, ending, starting, given, pieces_are, yes_returns, no_returns, end_returns, more_returns, then_returns, made_returns}
+use Rattle.no_reinstr.proofs.Returning.{Returns, ending, pieces_are, yes_returns, no_returns, end_returns, more_returns, then_returns, made_returns}
 use Rattle.no_reinstr.proofs.Works.{InstrBack, instr_back}
 
 module _ (m : Meaning) (text : List ℕ) (bytes : AreBytes m.text) (fit : TypesFit m.types) (last : Locals) (role : Role) where
-  abbrev instr_shown : Instr → List Piece
+  abbrev pub instr_shown : Instr → List Piece
   instr_shown = instr_pieces (spelled_by m) (named_by last)
 
-  abbrev instrs_shown : List Instr → List Piece
+  abbrev pub instrs_shown : List Instr → List Piece
   instrs_shown = instrs_pieces (spelled_by m) (named_by last)
 
-  abbrev blocks_shown : List Block → List Piece
+  abbrev pub blocks_shown : List Block → List Piece
   blocks_shown = blocks_pieces (spelled_by m) (named_by last)
 
-  abbrev label_shown : ℕ → List Piece
+  abbrev pub label_shown : ℕ → List Piece
   label_shown l = label_line lined (name_at last.labels l)
 
-  abbrev close : List Piece
+  abbrev pub close : List Piece
   close = sign lined (codes "}")
 
   -- ---- what stands in a body
@@ -66,13 +66,13 @@ module _ (m : Meaning) (text : List ℕ) (bytes : AreBytes m.text) (fit : TypesF
   unfolding a_piece label_piece
   label_step l x =
       no_returns (begins text (is_close text) false (label_shown l) (λ token h. sign_tested text (codes "}") _ token h))
-        (yes_returns (begins text is_label true (label_shown l) (λ token h. kind_tested text kind.Label _ token h)) (made_returns x))
+      (yes_returns (begins text is_label true (label_shown l) (λ token h. kind_tested text kind.Label _ token h)) (made_returns x))
 
   close_step : {s : Locals} → Returns text last step close None s s
   unfolding a_piece closing
   close_step =
       yes_returns (begins text (is_close text) true close (λ token h. sign_tested text (codes "}") _ token h))
-        (made_returns {p = a_sign text (codes "}")} {a = tt} (record { fine = λ h. h; holds = λ w. w; spells = λ h w z l. (z, l, sign_spells text lined z (codes "}") refl) }))
+      (made_returns {p = a_sign text (codes "}")} {a = tt} (record { fine = λ h. h; holds = λ w. w; spells = λ h w z l. (z, l, sign_spells text lined z (codes "}") refl) }))
 
   none_some : (p : blocks.Piece) → None ≡ Some p → ⊥
   none_some p e = cc
@@ -92,11 +92,11 @@ module _ (m : Meaning) (text : List ℕ) (bytes : AreBytes m.text) (fit : TypesF
   piece_back s t tokens p (inr (e, inl k)) =
       let l : ℕ = k.1.first in
       subst (λ (q : blocks.Piece). Returns text last step (piece_shown q) (Some q) s t) (sym (some_same p (piece.Label l) k.1.in_back.1))
-        (ending k.1.in_back.2 (label_step l (block_label_again m.text text bytes last lined s k.1.between k.1.front l k.1.in_front)))
+      (ending k.1.in_back.2 (label_step l (block_label_again m.text text bytes last lined s k.1.between k.1.front l k.1.in_front)))
   piece_back s t tokens p (inr (e, inr k)) =
       let i : Instr = k.1.first in
       subst (λ (q : blocks.Piece). Returns text last step (piece_shown q) (Some q) s t) (sym (some_same p (piece.Instr i) k.1.in_back.1))
-        (ending k.1.in_back.2 (instr_step i s k.1.between (instr_back m text bytes fit last role s k.1.between k.1.front i k.1.in_front)))
+      (ending k.1.in_back.2 (instr_step i s k.1.between (instr_back m text bytes fit last role s k.1.between k.1.front i k.1.in_front)))
 
   close_read : (s t : Locals) (tokens : List Token) → first_step.means s tokens None t → t ≡ s
   unfolding a_piece closing label_piece instr_piece
@@ -123,7 +123,7 @@ module _ (m : Meaning) (text : List ℕ) (bytes : AreBytes m.text) (fit : TypesF
       ∙ ap (λ l. label_shown label ++ (l ++ all_shown pieces)) (instrs_more instrs i)
       ∙ ap (λ l. label_shown label ++ l) (append_assoc (instrs_shown instrs) (instr_shown i) (all_shown pieces))
 
-  abbrev second : Rule Locals (List Block)
+  abbrev pub second : Rule Locals (List Block)
   second = body text (an_instr (over m text) role)
 
   entry_returns : (label : ℕ) {s t : Locals} → Returns text last (a_block_label text) (label_shown label) label s t → Returns text last (entry text (an_instr (over m text) role)) (label_shown label) (label, []) s t
@@ -135,7 +135,7 @@ module _ (m : Meaning) (text : List ℕ) (bytes : AreBytes m.text) (fit : TypesF
   unfolding body
   whole label pieces x y = pieces_are (ap (λ l. l ++ close) (sym (blocks_are label [] pieces))) (then_returns (entry_returns label x) (made_returns y))
 
-  abbrev Shown : List Block → Locals → Locals → Type 0
+  abbrev pub Shown : List Block → Locals → Locals → Type 0
   Shown all s t = Returns text last second (blocks_shown all ++ close) all s t
 
   body_by : (s u t : Locals) (front back : List Token) (first : ℕ × List Instr) (pieces : List blocks.Piece) → (entry m.text (an_instr m role)).means s front first u → IsRepeated first_step u back pieces t
@@ -144,15 +144,16 @@ module _ (m : Meaning) (text : List ℕ) (bytes : AreBytes m.text) (fit : TypesF
   body_by s u t front back first pieces (inl k) r =
       let label : ℕ = k.1.first in
       subst (λ (x : ℕ × List Instr). Shown (blocks_of x.0 x.1 pieces) s t) (sym k.1.in_back.1)
-        (whole label pieces (ending k.1.in_back.2 (block_label_again m.text text bytes last lined s k.1.between k.1.front label k.1.in_front)) (pieces_back u t back pieces r))
+      (whole label pieces (ending k.1.in_back.2 (block_label_again m.text text bytes last lined s k.1.between k.1.front label k.1.in_front)) (pieces_back u t back pieces r))
   body_by s u t front back first pieces (inr k) r =
       let label : ℕ = k.1.first in
       let i = k.1.in_back in
       let one = ending i.in_back.2 (instr_step i.first k.1.between i.between (instr_back m text bytes fit last role k.1.between i.between i.front i.first i.in_front)) in
       subst (λ (x : ℕ × List Instr). Shown (blocks_of x.0 x.1 pieces) s t) (sym i.in_back.1)
-        (whole label (piece.Instr i.first ∷ pieces) (no_block_label_again m.text text bytes last lined s k.1.between k.1.front label k.1.in_front)
-          (pieces_are (sym (append_assoc (instr_shown i.first) (all_shown pieces) close)) (more_returns one (pieces_back u t back pieces r))))
+      (whole label (piece.Instr i.first ∷ pieces) (no_block_label_again m.text text bytes last lined s k.1.between k.1.front label k.1.in_front)
+      (pieces_are (sym (append_assoc (instr_shown i.first) (all_shown pieces) close)) (more_returns one (pieces_back u t back pieces r))))
 
+  -- from the first text's state to its last, with any `last` whose names follow
   pub body_returns : (s t : Locals) (tokens : List Token) (all : List Block) → (body m.text (an_instr m role)).means s tokens all t → Shown all s t
   unfolding body
   body_returns s t tokens all r =

@@ -1,41 +1,34 @@
 -- Calls are read again behind their word: no attributes stand anywhere.
-use Rattle.std.proofs.Common.{◌≡◌, ℕ, Bool, true, false, not, ◌&&◌, List, [], ◌∷◌, ◌++◌, codes, Option, Some, None, is_some, Result, Ok, Err, if◌then◌else◌, inl, inr, refl, sym, ap, subst, ◌∙◌, append_assoc}
+use Rattle.std.proofs.Common.{◌≡◌, ℕ, Bool, false, List, [], ◌∷◌, ◌++◌, codes, Option, inr, refl, sym, subst, append_assoc}
 use Rattle.no_lex.specs.declared.token.Token.{Token}
-use Rattle.no_lex.specs.declared.token.TokenKind.TheVariants as kind
 use Rattle.no_ir.specs.declared.function.Role.{Role}
 use Rattle.no_ir.specs.declared.types.Ty.{Ty}
 use Rattle.no_ir.specs.declared.types.Ty.TheVariants as ty
 use Rattle.no_ir.specs.declared.instruction.Operand.{Operand}
-use Rattle.no_ir.specs.declared.instruction.Op.{Op}
 use Rattle.no_ir.specs.declared.instruction.Op.TheVariants as op
 use Rattle.no_ir.specs.declared.instruction.Instr.{Instr}
-use Rattle.no_grammar.specs.declared.fault.Flaw.{Flaw}
-use Rattle.no_grammar.specs.declared.fault.Flaw.TheVariants.{Syntax}
 use Rattle.no_grammar.specs.Lists.{more_item, items}
-use Rattle.no_grammar.specs.Repeated.{IsRepeated, repeat}
-use Rattle.no_grammar.specs.Rules.{Rule, plain, done, ◌>>=◌, lift, if_next}
+use Rattle.no_grammar.specs.Repeated.{IsRepeated}
+use Rattle.no_grammar.specs.Rules.{Rule}
 use Rattle.no_grammar.specs.Scope.{Meaning}
-use Rattle.no_grammar.specs.Spelled.{is_word, is_sign, only_where}
+use Rattle.no_grammar.specs.Spelled.{is_sign}
 use Rattle.no_grammar.specs.Types.{a_type}
-use Rattle.no_attrs.specs.declared.attribute.Attribute.{Attribute}
-use Rattle.no_attrs.specs.Attributes.{begins_attribute, an_attribute, all_attributes, all_go_on, skip_attributes}
-use Rattle.no_attrs.specs.Ending.{ahead}
+use Rattle.no_attrs.specs.Attributes.{begins_attribute, all_attributes, skip_attributes}
 use Rattle.no_locals.specs.declared.locals.Locals.{Locals}
 use Rattle.no_forms.specs.Operands.{DEPTH, some_type, an_operand}
 use Rattle.no_forms.specs.Ends.{end_mark}
-use Rattle.no_instr.specs.Calls.{result_of, behind_attributes, an_argument, call_parts}
-use Rattle.no_print.specs.Pieces.{Piece, spaced, glued, comma, word, sign, behind_commas, with_commas}
-use Rattle.no_print.specs.Constants.{type_at}
-use Rattle.no_print.specs.Instructions.{inserted_pieces, operand_pieces, argument_pieces, op_pieces}
+use Rattle.no_instr.specs.Calls.{behind_attributes, an_argument, call_parts}
+use Rattle.no_print.specs.Pieces.{Piece, spaced, glued, sign, with_commas}
+use Rattle.no_print.specs.Instructions.{inserted_pieces, operand_pieces, argument_pieces}
 use Rattle.no_reread.specs.Spells.{AreBytes, Spells, TypesFit, over, spelled_by}
-use Rattle.no_reread.proofs.Frame.{done_spells, made_spells}
+use Rattle.no_reread.proofs.Frame.{made_spells}
 use Rattle.no_reread.proofs.Items.{ItemsAre, items_are, more_reads, ended_keeps}
 use Rattle.no_reread.proofs.Listing.{EachSpells, IsClose, items_spell, no_items_spell}
 use Rattle.no_reread.proofs.Opening.{Opens, lift_opens, then_opens}
 use Rattle.no_reread.proofs.Standing.{Begins, begins_none, stand_none}
 use Rattle.no_reread.proofs.TypesAgain.{type_opens}
 use Rattle.no_reinstr.specs.States.{Like, Follows, IsFine, named_by}
-use Rattle.no_reinstr.proofs.Ends.{MarkFits, mark_read, mark_spells}
+use Rattle.no_reinstr.proofs.Ends.{mark_read, mark_spells}
 use Rattle.no_reinstr.proofs.Operands.{ptr_fits, sign_back, type_back, type_fits, operand_back, operand_plain}
 use Rattle.no_reinstr.proofs.Returning.{Returns, ending, lifted, value_is, pieces_are, then_returns, made_returns}
 
@@ -52,16 +45,20 @@ pub plain_returns : {A : Type 0} {text : List ℕ} {last : Locals} {p : Rule Loc
 plain_returns {text = text} first x = record {
   fine = x.fine;
   holds = x.holds;
-  spells = λ h w z l. let r = x.spells h w z l in (r.0, r.1, λ tokens stand. record {
-    front = [];
-    back = tokens;
-    first = [];
-    between = z;
-    parts = refl;
-    in_front = (none_spelled text [] tt, refl);
-    apart = first tokens stand;
-    in_back = r.2 tokens stand;
-  });
+  spells = λ h w z l. let r = x.spells h w z l in (
+    r.0,
+    r.1,
+    λ tokens stand. record {
+      front = [];
+      back = tokens;
+      first = [];
+      between = z;
+      parts = refl;
+      in_front = (none_spelled text [] tt, refl);
+      apart = first tokens stand;
+      in_back = r.2 tokens stand;
+    },
+  );
 }
 
 -- ---- items
@@ -130,8 +127,8 @@ module _ (m : Meaning) (text : List ℕ) (bytes : AreBytes m.text) (fit : TypesF
       let same : o.between ≡ r.between = o.in_front.1 in
       let plain = operand_plain m text bytes fit last of fits o.between x.between o.back x.first o.in_back in
       value_is (an_argument (over m text)) (argument_shown gap) x.in_back.1 (ending x.in_back.2
-        (then_returns (type_back m text bytes fit last gap r.front of r.in_front)
-          (made_returns (subst (λ v. Returns text last (behind_attributes text (an_operand (over m text) of)) (shown of x.first) x.first v x.between) same (plain_returns plain operand)))))
+      (then_returns (type_back m text bytes fit last gap r.front of r.in_front)
+      (made_returns (subst (λ v. Returns text last (behind_attributes text (an_operand (over m text) of)) (shown of x.first) x.first v x.between) same (plain_returns plain operand)))))
 
   argument_opens : Opens (is_sign text (codes ")")) false (an_argument (over m text))
   unfolding an_argument

@@ -1,5 +1,5 @@
 -- What follows an instruction behind commas is read again: no alignment, and at most the one attachment that marks it.
-use Rattle.std.proofs.Common.{◌≡◌, ℕ, suc, zero, Bool, true, false, ◌||◌, ◌&&◌, ◌==◌, List, [], ◌∷◌, ◌++◌, bytes_eq, codes, Result, Ok, Err, inl, inr, if◌then◌else◌, refl, sym, ap, subst, ◌∙◌}
+use Rattle.std.proofs.Common.{◌≡◌, ℕ, suc, zero, Bool, true, false, ◌||◌, ◌&&◌, ◌==◌, List, [], ◌++◌, bytes_eq, codes, Result, Ok, Err, inl, inr, if◌then◌else◌, refl, sym, ap, subst, ◌∙◌}
 use Rattle.no_lex.specs.declared.token.Token.{Token}
 use Rattle.no_lex.specs.declared.token.TokenKind.{TokenKind}
 use Rattle.no_lex.specs.declared.token.TokenKind.TheVariants as kind
@@ -8,17 +8,17 @@ use Rattle.no_ir.specs.declared.function.Role.TheVariants.{Source, Part}
 use Rattle.no_ir.specs.declared.instruction.Op.{Op}
 use Rattle.no_grammar.specs.declared.fault.Flaw.{Flaw}
 use Rattle.no_grammar.specs.declared.fault.Flaw.TheVariants.{Syntax}
-use Rattle.no_grammar.specs.Rules.{Rule, plain, done, ◌>>=◌, lift, if_next}
-use Rattle.no_grammar.specs.Spelled.{spelled, kind_number, is_kind, is_word, is_sign, a_sign}
+use Rattle.no_grammar.specs.Rules.{plain, if_next}
+use Rattle.no_grammar.specs.Spelled.{kind_number, is_word}
 use Rattle.no_locals.specs.declared.locals.Locals.{Locals}
 use Rattle.no_forms.specs.declared.ends.Ending.{Ending}
-use Rattle.no_forms.specs.Ends.{is_comma, an_alignment, names_node, node_is, marks, an_attachment, opens_alignment, end_alignment, end_attachment, end_step, ends, end_mark, finish, ended}
-use Rattle.no_forms.specs.Folded.{AreSteps, folded}
-use Rattle.no_print.specs.Pieces.{Piece, spaced, glued, piece, sign, comma}
+use Rattle.no_forms.specs.Ends.{is_comma, names_node, node_is, marks, an_attachment, opens_alignment, end_alignment, end_attachment, end_step, ends, end_mark, finish}
+use Rattle.no_forms.specs.Folded.{AreSteps}
+use Rattle.no_print.specs.Pieces.{Piece, spaced, glued, piece, comma}
 use Rattle.no_print.specs.Stand.{IsPiece}
 use Rattle.no_print.specs.Instructions.{inserted_pieces}
 use Rattle.no_reread.specs.Spells.{Spells}
-use Rattle.no_reread.proofs.Frame.{plain_spells, done_spells, then_spells, made_spells, no_spells}
+use Rattle.no_reread.proofs.Frame.{plain_spells, then_spells, made_spells, no_spells}
 use Rattle.no_reread.proofs.Listing.{sign_spells, sign_begins}
 use Rattle.no_reread.proofs.Standing.{Begins, begins, word_tested}
 use Rattle.no_reinstr.proofs.Returning.{Returns, ending, lifted, value_is, made_returns, no_steps_spell, step_spells}
@@ -73,9 +73,9 @@ module _ (text : List ℕ) where
   unfolding an_attachment
   attachment_spells =
       then_spells text _ _ tt tt tt (piece kind.Meta spaced (codes "!no.x")) (piece kind.Meta spaced (codes "!0")) true true
-        (plain_spells {S = Unit {0}} text (node_by (codes "!no.x")) tt (record { gap = spaced; kind = kind.Meta; bytes = codes "!no.x" }) true refl)
-        (made_spells text (plain (node_is text (codes "!0"))) (λ node. false || marks Part true node) tt tt (piece kind.Meta spaced (codes "!0")) true
-          (plain_spells {S = Unit {0}} text (node_by (codes "!0")) tt (record { gap = spaced; kind = kind.Meta; bytes = codes "!0" }) true refl))
+      (plain_spells {S = Unit {0}} text (node_by (codes "!no.x")) tt (record { gap = spaced; kind = kind.Meta; bytes = codes "!no.x" }) true refl)
+      (made_spells text (plain (node_is text (codes "!0"))) (λ node. false || marks Part true node) tt tt (piece kind.Meta spaced (codes "!0")) true
+      (plain_spells {S = Unit {0}} text (node_by (codes "!0")) tt (record { gap = spaced; kind = kind.Meta; bytes = codes "!0" }) true refl))
 
   pub comma_first : (rest : List Piece) → Begins text (is_comma text) true (comma ++ rest)
   comma_first rest = sign_begins text glued (codes ",") (codes ",") true rest refl
@@ -92,8 +92,8 @@ module _ (text : List ℕ) where
   step_again aligns =
       let e : Ending = record { aligns = aligns; inserted = false } in
       then_spells text _ _ tt tt tt comma mark_pieces tt (record { aligns = false; inserted = true }) (sign_spells text glued tt (codes ",") refl)
-        (no_spells text (opens_alignment text e) (end_alignment text e) (end_attachment text Part e) tt mark_pieces (record { aligns = false; inserted = true }) tt (no_alignment aligns)
-          (made_spells text (an_attachment text Part false) (λ inserted. record { aligns = false; inserted = inserted }) tt tt mark_pieces true attachment_spells))
+      (no_spells text (opens_alignment text e) (end_alignment text e) (end_attachment text Part e) tt mark_pieces (record { aligns = false; inserted = true }) tt (no_alignment aligns)
+      (made_spells text (an_attachment text Part false) (λ inserted. record { aligns = false; inserted = inserted }) tt tt mark_pieces true attachment_spells))
 
   pub mark_spells : (role : Role) (aligns b : Bool) → MarkFits role b → Spells text (end_mark text role aligns) tt (inserted_pieces b) b tt
   unfolding end_mark
@@ -105,7 +105,7 @@ module _ (text : List ℕ) where
       let e : Ending = record { aligns = aligns; inserted = false } in
       let v : Ending = record { aligns = false; inserted = true } in
       made_spells text (ends text Part e) (λ e. e.inserted) tt tt (comma ++ mark_pieces) v
-        (step_spells text (is_comma text) (end_step text Part) (comma ++ mark_pieces) [] e v v tt tt tt (comma_first mark_pieces) (step_again aligns) (no_steps_spell text (is_comma text) (end_step text Part) v tt))
+      (step_spells text (is_comma text) (end_step text Part) (comma ++ mark_pieces) [] e v v tt tt tt (comma_first mark_pieces) (step_again aligns) (no_steps_spell text (is_comma text) (end_step text Part) v tt))
 
 -- ---- behind an operation
 
@@ -114,7 +114,8 @@ pub finish_back : (from text : List ℕ) (last : Locals) (role : Role) (aligns :
 unfolding finish
 finish_back from text last role aligns o tokens x r =
     let b : Bool = r.first in
-    let is : x ≡ (o, b) = r.in_back.1 in
-    (is ∙ ap (λ (c : Bool). let p : Op × Bool = (o, c) in p) (sym (ap (λ (y : Op × Bool). y.1) is)),
+    let is : x ≡ (o, b) = r.in_back.1 in (
+      is ∙ ap (λ (c : Bool). let p : Op × Bool = (o, c) in p) (sym (ap (λ (y : Op × Bool). y.1) is)),
       value_is (finish text role aligns o) (λ x. inserted_pieces x.1) is (ending r.in_back.2
-        (made_returns (lifted (end_mark text role aligns) r.in_front.1 (mark_spells text role aligns b (mark_read from role aligns b r.front r.in_front.0))))))
+          (made_returns (lifted (end_mark text role aligns) r.in_front.1 (mark_spells text role aligns b (mark_read from role aligns b r.front r.in_front.0))))),
+    )

@@ -1,5 +1,5 @@
 -- Control flow is read again behind its words.
-use Rattle.std.proofs.Common.{◌≡◌, ℕ, suc, zero, ◌^◌, ◌<◌, ◌==◌, Bool, true, false, not, List, [], ◌∷◌, ◌++◌, bytes_eq, codes, Option, Some, None, Result, Ok, Err, if◌then◌else◌, inl, inr, refl, sym, ap, subst, ◌∙◌, append_assoc, arith}
+use Rattle.std.proofs.Common.{◌≡◌, ℕ, suc, zero, ◌^◌, ◌<◌, ◌==◌, Bool, true, false, not, List, [], ◌∷◌, ◌++◌, codes, Some, None, Result, Ok, Err, if◌then◌else◌, inl, inr, refl, sym, ap, subst, ◌∙◌, append_assoc, arith}
 use Rattle.std.specs.Fmt.{signed_decimal}
 use Rattle.std.proofs.lemmas.Bool.{eqb-true}
 use Rattle.no_lex.specs.declared.token.Token.{Token}
@@ -13,12 +13,11 @@ use Rattle.no_ir.specs.declared.instruction.Op.TheVariants as op
 use Rattle.no_grammar.specs.declared.fault.Flaw.{Flaw}
 use Rattle.no_grammar.specs.declared.fault.Flaw.TheVariants.{Syntax}
 use Rattle.no_grammar.specs.Repeated.{IsRepeated, repeat}
-use Rattle.no_grammar.specs.Rules.{Rule, plain, done, ◌>>=◌, lift, if_next, checked}
+use Rattle.no_grammar.specs.Rules.{Rule, plain, checked}
 use Rattle.no_grammar.specs.Scope.{Meaning}
-use Rattle.no_grammar.specs.Spelled.{spelled, is_kind, is_word, is_sign}
+use Rattle.no_grammar.specs.Spelled.{spelled, is_kind, is_sign}
 use Rattle.no_values.specs.Places.{width_of, number_by, number_at}
 use Rattle.no_locals.specs.declared.locals.Locals.{Locals}
-use Rattle.no_forms.specs.Operands.{some_type}
 use Rattle.no_forms.specs.Ends.{finish}
 use Rattle.no_forms.specs.Flow.{return_void, return_value, ret, branch, branch_if, br, same_width, a_case, no_case, one_case, more_case, switch, a_pair, phi}
 use Rattle.no_print.specs.Names.{name_at, local_name, int_type, number, truth, signed}
@@ -101,8 +100,8 @@ module _ (m : Meaning) (text : List ℕ) (bytes : AreBytes m.text) (fit : TypesF
         are = λ gap. refl;
         back = ending x.in_back.2
             (no_returns (type_not m text bytes fit last spaced (codes "void") s k.between k.front of (shown of x.first) (record { one = refl; byte = refl; short = refl; half = refl; full = refl; pointer = refl }) k.in_front)
-              (then_returns (type_back m text bytes fit last spaced k.front of k.in_front)
-              (made_returns (operand_back m text bytes fit last of (type_fits m text bytes fit last s k.between k.front of k.in_front) x.front x.first x.in_front))));
+            (then_returns (type_back m text bytes fit last spaced k.front of k.in_front)
+            (made_returns (operand_back m text bytes fit last of (type_fits m text bytes fit last s k.between k.front of k.in_front) x.front x.first x.in_front))));
       })
 
   -- ---- `br`
@@ -126,12 +125,12 @@ module _ (m : Meaning) (text : List ℕ) (bytes : AreBytes m.text) (fit : TypesF
         are = λ gap. ap (λ w. word gap (codes "br") ++ (w ++ rest)) (one_bit spaced);
         back = ending y.in_back.2
             (no_returns (word_first text spaced (codes "i1") (codes "label") rest false refl)
-              (then_returns (word_back m text bytes fit last spaced (codes "i1") refl r.1.in_front.1)
-              (then_returns (operand_back m text bytes fit last (ty.Int 1) (int_fits 1 widths.one_bit) c.front c.first c.in_front)
-              (then_returns (sign_back m text bytes fit last glued (codes ",") refl c.in_back.in_front.1)
-              (then_returns (label_back m text bytes fit last x.front x.first x.in_front)
-              (then_returns (sign_back m text bytes fit last glued (codes ",") refl x.in_back.in_front.1)
-              (made_returns (label_back m text bytes fit last y.front y.first y.in_front))))))));
+            (then_returns (word_back m text bytes fit last spaced (codes "i1") refl r.1.in_front.1)
+            (then_returns (operand_back m text bytes fit last (ty.Int 1) (int_fits 1 widths.one_bit) c.front c.first c.in_front)
+            (then_returns (sign_back m text bytes fit last glued (codes ",") refl c.in_back.in_front.1)
+            (then_returns (label_back m text bytes fit last x.front x.first x.in_front)
+            (then_returns (sign_back m text bytes fit last glued (codes ",") refl x.in_back.in_front.1)
+            (made_returns (label_back m text bytes fit last y.front y.first y.in_front))))))));
       })
 
   -- ---- `switch`
@@ -148,10 +147,10 @@ module _ (m : Meaning) (text : List ℕ) (bytes : AreBytes m.text) (fit : TypesF
       let small = number_small w token.kind (spelled m.text token) n.first (kept_value tt (number_at m.text w token) n.first tt n.in_front.0.value) in
       let same = width_passes w r.in_front.0.value r.in_front.0.passes in
       value_is (a_case (over m text) w) (case_shown w) l.in_back.1 (ending l.in_back.2
-        (then_returns (lifted (checked (plain (width_of text)) (same_width w)) r.in_front.1 (checked_spells text (plain (width_of text)) (same_width w) tt tt (int_type spaced w) w tt (width_spells text spaced w width) same.1))
-        (then_returns (lifted (plain (number_at text w)) n.in_front.1 (number_spells text w n.first width small))
-        (then_returns (sign_back m text bytes fit last glued (codes ",") refl n.in_back.in_front.1)
-        (made_returns (label_back m text bytes fit last l.front l.first l.in_front))))))
+      (then_returns (lifted (checked (plain (width_of text)) (same_width w)) r.in_front.1 (checked_spells text (plain (width_of text)) (same_width w) tt tt (int_type spaced w) w tt (width_spells text spaced w width) same.1))
+      (then_returns (lifted (plain (number_at text w)) n.in_front.1 (number_spells text w n.first width small))
+      (then_returns (sign_back m text bytes fit last glued (codes ",") refl n.in_back.in_front.1)
+      (made_returns (label_back m text bytes fit last l.front l.first l.in_front))))))
 
   some_case : (c : ℕ × ℕ) → Some c ≡ None → ⊥
   some_case c e = cc
@@ -223,11 +222,11 @@ module _ (m : Meaning) (text : List ℕ) (bytes : AreBytes m.text) (fit : TypesF
       let l = x.in_back.in_back in
       let close = l.in_back in
       value_is (a_pair (over m text) of) (pair_shown of) close.in_back.1 (ending close.in_back.2
-        (then_returns (sign_back m text bytes fit last spaced (codes "[") refl r.in_front.1)
-        (then_returns (operand_back m text bytes fit last of fits x.front x.first x.in_front)
-        (then_returns (sign_back m text bytes fit last glued (codes ",") refl x.in_back.in_front.1)
-        (then_returns (label_name_again m.text text bytes last spaced x.in_back.between l.between l.front l.first l.in_front)
-        (made_returns (sign_back m text bytes fit last spaced (codes "]") refl close.in_front.1)))))))
+      (then_returns (sign_back m text bytes fit last spaced (codes "[") refl r.in_front.1)
+      (then_returns (operand_back m text bytes fit last of fits x.front x.first x.in_front)
+      (then_returns (sign_back m text bytes fit last glued (codes ",") refl x.in_back.in_front.1)
+      (then_returns (label_name_again m.text text bytes last spaced x.in_back.between l.between l.front l.first l.in_front)
+      (made_returns (sign_back m text bytes fit last spaced (codes "]") refl close.in_front.1)))))))
 
   pub phi_back : (role : Role) (s t : Locals) (tokens : List Token) (x : Op × Bool) → (phi m role).means s tokens x t → FormBack m text last (phi (over m text) role) (codes "phi") x s t
   unfolding phi
@@ -238,7 +237,7 @@ module _ (m : Meaning) (text : List ℕ) (bytes : AreBytes m.text) (fit : TypesF
       let all = p.in_back in
       let b : Bool = all.first.inserted in
       let l = listed_back m.text text last role (a_pair m of) (a_pair (over m text) of) (pair_shown of) (pair_back of fits) (λ s t tokens a r. pair_opens of a)
-          p.between all.between all.front (p.first ∷ []) all.first all.in_front in
+      p.between all.between all.front (p.first ∷ []) all.first all.in_front in
       let is : x ≡ (op.Phi of (p.first ∷ l.more), b) = all.in_back.1 ∙ ap (λ (items : List (Operand × ℕ)). let y : Op × Bool = (op.Phi of items, b) in y) l.are in
       subst (λ x. FormBack m text last (phi (over m text) role) (codes "phi") x s t) (sym is) (record {
         pieces = type_shown of ++ (pair_shown of p.first ++ behind_commas (pair_shown of) l.more);

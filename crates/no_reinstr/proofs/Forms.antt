@@ -1,5 +1,5 @@
 -- Operations on values are read again behind their words.
-use Rattle.std.proofs.Common.{◌≡◌, ℕ, Bool, true, false, ◌||◌, ◌==◌, List, [], ◌∷◌, ◌++◌, bytes_eq, codes, decimal, Option, Some, None, Result, Ok, Err, inl, inr, if◌then◌else◌, refl, sym, ap, subst, ◌∙◌, append_assoc}
+use Rattle.std.proofs.Common.{◌≡◌, ℕ, Bool, false, ◌||◌, ◌==◌, List, [], ◌∷◌, ◌++◌, bytes_eq, codes, decimal, Result, Ok, Err, if◌then◌else◌, refl, sym, ap, subst, ◌∙◌, append_assoc}
 use Rattle.std.specs.Fmt.{digits}
 use Rattle.no_lex.specs.declared.token.Token.{Token}
 use Rattle.no_lex.specs.declared.token.TokenKind.{TokenKind}
@@ -13,35 +13,30 @@ use Rattle.no_ir.specs.declared.instruction.Pred.{Pred}
 use Rattle.no_ir.specs.declared.instruction.Pred.TheVariants as pred
 use Rattle.no_ir.specs.declared.instruction.Operand.{Operand}
 use Rattle.no_ir.specs.declared.instruction.Op.{Op}
-use Rattle.no_ir.specs.declared.instruction.Op.TheVariants as op
 use Rattle.no_grammar.specs.declared.fault.Flaw.{Flaw}
 use Rattle.no_grammar.specs.declared.fault.Flaw.TheVariants.{Syntax}
-use Rattle.no_grammar.specs.Rules.{Rule, plain, done, ◌>>=◌, lift, next_is}
+use Rattle.no_grammar.specs.Rules.{Rule, plain}
 use Rattle.no_grammar.specs.Scope.{Meaning}
-use Rattle.no_grammar.specs.Spelled.{spelled, kind_number, is_kind, is_word}
-use Rattle.no_values.specs.Skipped.{behind}
+use Rattle.no_grammar.specs.Spelled.{kind_number, is_word}
 use Rattle.no_locals.specs.declared.locals.Locals.{Locals}
 use Rattle.no_forms.specs.declared.operands.Flags.{Flags}
 use Rattle.no_forms.specs.declared.operands.Flags.TheVariants as flags
 use Rattle.no_forms.specs.Operands.{some_type, is_flag_word}
-use Rattle.no_forms.specs.Ends.{finish, ended}
+use Rattle.no_forms.specs.Ends.{ended}
 use Rattle.no_forms.specs.Simple.{binary_flags, binary_parts, binary, cast_flags, cast_parts, cast_form, pred_of, compare_parts, compare, freeze, select}
 use Rattle.no_forms.specs.Simple as simple
 use Rattle.no_print.specs.Names.{int_type}
 use Rattle.no_print.specs.Pieces.{Piece, spaced, glued, comma, word}
-use Rattle.no_print.specs.Stand.{Stand}
 use Rattle.no_print.specs.Constants.{type_at}
-use Rattle.no_print.specs.Instructions.{binary_word, cast_word, pred_word, inserted_pieces, operand_pieces, typed, sized, op_pieces}
+use Rattle.no_print.specs.Instructions.{binary_word, cast_word, pred_word, inserted_pieces, operand_pieces, op_pieces}
 use Rattle.no_reread.specs.Spells.{AreBytes, Spells, TypesFit, over, spelled_by}
 use Rattle.no_reread.proofs.Frame.{plain_spells}
-use Rattle.no_reread.proofs.Opening.{kept_value}
 use Rattle.no_reread.proofs.Standing.{Begins}
 use Rattle.no_reread.proofs.Widths as widths
 use Rattle.no_reinstr.specs.States.{named_by}
-use Rattle.no_reinstr.proofs.Beginnings.{OtherWord}
 use Rattle.no_reinstr.proofs.Ends.{finish_back}
 use Rattle.no_reinstr.proofs.Operands.{int_fits, word_first, word_back, sign_back, type_back, type_fits, type_not, this_back, width_read, width_back, operand_back}
-use Rattle.no_reinstr.proofs.Returning.{Returns, ending, lifted, pieces_are, behind_returns, then_returns, made_returns}
+use Rattle.no_reinstr.proofs.Returning.{Returns, ending, lifted, behind_returns, then_returns, made_returns}
 
 -- ---- words without an effect
 

@@ -1,16 +1,16 @@
 -- Items behind commas, and what follows them, are read again.
-use Rattle.std.proofs.Common.{◌≡◌, ℕ, suc, zero, Bool, true, false, not, ◌||◌, ◌&&◌, List, [], ◌∷◌, ◌++◌, codes, inl, inr, refl, sym, ap, subst, ◌∙◌, append_assoc, append-nil}
+use Rattle.std.proofs.Common.{◌≡◌, ℕ, suc, zero, Bool, true, false, not, ◌&&◌, List, [], ◌∷◌, ◌++◌, codes, inl, inr, refl, sym, ap, subst, ◌∙◌, append_assoc, append-nil}
 use Rattle.no_lex.specs.declared.token.Token.{Token}
 use Rattle.no_lex.specs.declared.token.TokenKind.TheVariants as kind
 use Rattle.no_ir.specs.declared.function.Role.{Role}
 use Rattle.no_ir.specs.declared.function.Role.TheVariants.{Source, Part}
-use Rattle.no_grammar.specs.Rules.{Rule, done, ◌>>=◌, lift, if_next, next_is}
+use Rattle.no_grammar.specs.Rules.{Rule, if_next, next_is}
 use Rattle.no_grammar.specs.Spelled.{is_kind}
 use Rattle.no_locals.specs.declared.locals.Locals.{Locals}
 use Rattle.no_forms.specs.declared.ends.Listed.{Listed}
 use Rattle.no_forms.specs.Operands.{sign}
 use Rattle.no_forms.specs.Ends.{is_comma, an_attachment, opens_item, list_item, list_attachment, list_step, listed}
-use Rattle.no_forms.specs.Folded.{AreSteps, folded}
+use Rattle.no_forms.specs.Folded.{AreSteps}
 use Rattle.no_print.specs.Pieces.{Piece, glued, comma, behind_commas}
 use Rattle.no_print.specs.Instructions.{inserted_pieces}
 use Rattle.no_reread.proofs.Listing.{sign_spells}
@@ -26,7 +26,6 @@ comma_back text last e = lifted (spelled.a_sign text (codes ",")) e (sign_spells
 pub never : (test : Token → Bool) (tokens : List Token) → ((token : Token) → test token ≡ false) → next_is test tokens ≡ true → ⊥
 never test [] fails e = absurd cc
 never test (t ∷ tokens) fails e = let k : test t ≡ false = fails t in absurd cc
-
 
 module _ {A : Type 0} (from text : List ℕ) (last : Locals) (role : Role) (item other : Rule Locals A) (f : A → List Piece)
     (again : (s t : Locals) (tokens : List Token) (a : A) → item.means s tokens a t → Returns text last other (f a) a s t)
@@ -106,7 +105,7 @@ module _ {A : Type 0} (from text : List ℕ) (last : Locals) (role : Role) (item
             are = x.are ∙ shape;
             back = subst (λ l. Returns text last (listed text role other (so_far before)) (behind_commas f (a ∷ x.more) ++ inserted_pieces all.inserted) (all_of l all.inserted) s t) shape
                 (pieces_are (ap (λ l. comma ++ l) (sym (append_assoc (f a) (behind_commas f x.more) (inserted_pieces all.inserted))))
-                  (step_returns (comma_first text (f a)) (one_more before a (opens r.first.between k.1.between k.1.front a k.1.in_front) first) x.back));
+                (step_returns (comma_first text (f a)) (one_more before a (opens r.first.between k.1.between k.1.front a k.1.in_front) first) x.back));
           }
       by (inr k) e more =
           let is : r.value ≡ record { items = before; begun = true; inserted = k.1.first } = k.1.in_back.1 in

@@ -1,5 +1,5 @@
 -- Loads, stores and addresses are read again behind their words.
-use Rattle.std.proofs.Common.{◌≡◌, ℕ, Bool, true, false, not, ◌||◌, List, [], ◌∷◌, ◌++◌, codes, inl, inr, refl, sym, ap, subst, ◌∙◌, append_assoc}
+use Rattle.std.proofs.Common.{◌≡◌, ℕ, Bool, true, false, not, List, [], ◌∷◌, ◌++◌, codes, inl, inr, refl, sym, ap, subst, ◌∙◌, append_assoc}
 use Rattle.no_lex.specs.declared.token.Token.{Token}
 use Rattle.no_lex.specs.declared.token.TokenKind.TheVariants as kind
 use Rattle.no_ir.specs.declared.function.Role.{Role}
@@ -7,11 +7,10 @@ use Rattle.no_ir.specs.declared.types.Ty.{Ty}
 use Rattle.no_ir.specs.declared.instruction.Operand.{Operand}
 use Rattle.no_ir.specs.declared.instruction.Op.{Op}
 use Rattle.no_ir.specs.declared.instruction.Op.TheVariants as op
-use Rattle.no_grammar.specs.Rules.{Rule, done, ◌>>=◌, if_next}
+use Rattle.no_grammar.specs.Rules.{Rule}
 use Rattle.no_grammar.specs.Scope.{Meaning}
 use Rattle.no_grammar.specs.Spelled.{is_kind, is_word}
 use Rattle.no_values.specs.Places.{is_flag}
-use Rattle.no_values.specs.Skipped.{behind}
 use Rattle.no_locals.specs.declared.locals.Locals.{Locals}
 use Rattle.no_forms.specs.Operands.{some_type, sized_operand}
 use Rattle.no_forms.specs.Memory.{is_volatile, load_parts, volatile_load, load, store_parts, volatile_store, store, address_parts, address}
@@ -151,9 +150,9 @@ module _ (m : Meaning) (text : List ℕ) (bytes : AreBytes m.text) (fit : TypesF
   no_flag : (s t : Locals) (tokens : List Token) (of : Ty) (rest : List Piece) → (some_type m).means s tokens of t → Begins text (is_flag text) false (type_shown of ++ rest)
   no_flag s t tokens of rest r =
       no_place_flag text (type_shown of ++ rest)
-        (type_not m text bytes fit last spaced (codes "inbounds") s t tokens of rest (record { one = refl; byte = refl; short = refl; half = refl; full = refl; pointer = refl }) r)
-        (type_not m text bytes fit last spaced (codes "nusw") s t tokens of rest (record { one = refl; byte = refl; short = refl; half = refl; full = refl; pointer = refl }) r)
-        (type_not m text bytes fit last spaced (codes "nuw") s t tokens of rest (record { one = refl; byte = refl; short = refl; half = refl; full = refl; pointer = refl }) r)
+      (type_not m text bytes fit last spaced (codes "inbounds") s t tokens of rest (record { one = refl; byte = refl; short = refl; half = refl; full = refl; pointer = refl }) r)
+      (type_not m text bytes fit last spaced (codes "nusw") s t tokens of rest (record { one = refl; byte = refl; short = refl; half = refl; full = refl; pointer = refl }) r)
+      (type_not m text bytes fit last spaced (codes "nuw") s t tokens of rest (record { one = refl; byte = refl; short = refl; half = refl; full = refl; pointer = refl }) r)
 
   address_read : (role : Role) (s t : Locals) (tokens : List Token) (x : Op × Bool) → (address_parts m role).means s tokens x t → FormBack m text last (address (over m text) role) (codes "getelementptr") x s t
   unfolding address_parts
@@ -164,7 +163,7 @@ module _ (m : Meaning) (text : List ℕ) (bytes : AreBytes m.text) (fit : TypesF
       let all = i.in_back in
       let b : Bool = all.first.inserted in
       let l = listed_back m.text text last role (sized_operand m) (sized_operand (over m text)) index_shown (λ s t tokens a r. sized_back m text bytes fit last tokens a r) (λ s t tokens a r. index_opens a)
-          i.between all.between all.front (i.first ∷ []) all.first all.in_front in
+      i.between all.between all.front (i.first ∷ []) all.first all.in_front in
       let is : x ≡ (op.Gep base p.first (i.first ∷ l.more), b) = all.in_back.1 ∙ ap (λ (items : List (ℕ × Operand)). let y : Op × Bool = (op.Gep base p.first items, b) in y) l.are in
       let rest : List Piece = comma ++ (place_shown p.first ++ (comma ++ (index_shown i.first ++ (behind_commas index_shown l.more ++ inserted_pieces b)))) in
       subst (λ x. FormBack m text last (address (over m text) role) (codes "getelementptr") x s t) (sym is) (record {
@@ -172,12 +171,12 @@ module _ (m : Meaning) (text : List ℕ) (bytes : AreBytes m.text) (fit : TypesF
         are = λ gap. refl;
         back = ending all.in_back.2 (pieces_are (regroup _ _ (type_shown base) (place_shown p.first) (index_shown i.first) (behind_commas index_shown l.more) (inserted_pieces b))
             (behind_returns (no_flag s r.between r.front base rest r.in_front)
-              (then_returns (type_back m text bytes fit last spaced r.front base r.in_front)
-              (then_returns (sign_back m text bytes fit last glued (codes ",") refl r.in_back.in_front.1)
-              (then_returns (pointer_back m text bytes fit last p.front p.first p.in_front)
-              (then_returns (sign_back m text bytes fit last glued (codes ",") refl p.in_back.in_front.1)
-              (then_returns (sized_back m text bytes fit last i.front i.first i.in_front)
-              (made_returns l.back))))))));
+            (then_returns (type_back m text bytes fit last spaced r.front base r.in_front)
+            (then_returns (sign_back m text bytes fit last glued (codes ",") refl r.in_back.in_front.1)
+            (then_returns (pointer_back m text bytes fit last p.front p.first p.in_front)
+            (then_returns (sign_back m text bytes fit last glued (codes ",") refl p.in_back.in_front.1)
+            (then_returns (sized_back m text bytes fit last i.front i.first i.in_front)
+            (made_returns l.back))))))));
       })
 
   pub address_back : (role : Role) (s t : Locals) (tokens : List Token) (x : Op × Bool) → (address m role).means s tokens x t → FormBack m text last (address (over m text) role) (codes "getelementptr") x s t

@@ -1,16 +1,15 @@
 -- Words, types, widths and operands of an instruction are read again.
-use Rattle.std.proofs.Common.{◌≡◌, ℕ, ◌<◌, ◌≤◌, Bool, true, false, List, [], ◌∷◌, ◌++◌, bytes_eq, codes, Result, Ok, Err, inl, inr, refl, sym, ap, subst, ◌∙◌}
+use Rattle.std.proofs.Common.{◌≡◌, ℕ, Bool, true, false, List, [], ◌++◌, bytes_eq, codes, inl, inr, refl, sym, ap, subst, ◌∙◌}
 use Rattle.no_lex.specs.declared.token.Token.{Token}
 use Rattle.no_lex.specs.declared.token.TokenKind.TheVariants as kind
-use Rattle.no_ir.specs.declared.types.Ty.{Ty, out-Ty, roll-Ty}
+use Rattle.no_ir.specs.declared.types.Ty.{Ty, out-Ty}
 use Rattle.no_ir.specs.declared.types.Ty.TheOpen.{Ty-F}
 use Rattle.no_ir.specs.declared.types.Ty.TheVariants as ty
 use Rattle.no_ir.specs.declared.types.Ty.TheVariants.{rolls-Int, rolls-Ptr}
 use Rattle.no_ir.specs.declared.types.Ty.TheViews.{out-roll-Ty}
 use Rattle.no_ir.specs.declared.constant.Const.{Const}
 use Rattle.no_ir.specs.declared.instruction.Operand.{Operand}
-use Rattle.no_ir.specs.declared.instruction.Operand.TheVariants as operand
-use Rattle.no_grammar.specs.Rules.{Rule, plain, done, ◌>>=◌, lift, if_next, checked}
+use Rattle.no_grammar.specs.Rules.{plain, checked}
 use Rattle.no_grammar.specs.Scope.{Meaning}
 use Rattle.no_grammar.specs.Spelled.{spelled, is_kind, is_word, only_where, a_word, a_sign}
 use Rattle.no_grammar.specs.Types.{a_type, must_be}
@@ -18,14 +17,14 @@ use Rattle.no_values.specs.Places.{width_of}
 use Rattle.no_values.specs.Constants.{a_const}
 use Rattle.no_attrs.specs.Attributes.{begins_by, begins_attribute}
 use Rattle.no_locals.specs.declared.locals.Locals.{Locals}
-use Rattle.no_locals.specs.Numbered.{a_register, a_label_name, a_label}
+use Rattle.no_locals.specs.Numbered.{a_label}
 use Rattle.no_forms.specs.Operands.{DEPTH, word, sign, some_type, this_type, a_width, register_operand, const_operand, an_operand, a_pointer, sized_operand}
 use Rattle.no_print.specs.Names.{name_at, local_name, int_type}
 use Rattle.no_print.specs.Pieces.{Piece, spaced, comma}
 use Rattle.no_print.specs.Pieces as print
 use Rattle.no_print.specs.Constants.{type_at, const_pieces}
-use Rattle.no_print.specs.Instructions.{operand_pieces, typed, sized, pointer, label}
-use Rattle.no_reread.specs.Spells.{AreBytes, Spells, WidthFits, TypeFits, TypesFit, over, spelled_by}
+use Rattle.no_print.specs.Instructions.{operand_pieces, sized, pointer, label}
+use Rattle.no_reread.specs.Spells.{AreBytes, WidthFits, TypeFits, TypesFit, over, spelled_by}
 use Rattle.no_reread.proofs.ConstFirst.{read_fits}
 use Rattle.no_reread.proofs.ConstsAgain.{const_again}
 use Rattle.no_reread.proofs.Listing.{word_spells, sign_spells}
@@ -112,7 +111,7 @@ module _ (m : Meaning) (text : List ℕ) (bytes : AreBytes m.text) (fit : TypesF
   unfolding register_operand an_operand
   register_back ty tokens o r =
       value_is (an_operand (over m text) ty) (shown ty) r.in_back.1 (ending r.in_back.2
-        (yes_returns (local_first text spaced (name_at last.registers r.first) []) (made_returns (register_again m.text text bytes last spaced _ r.between r.front r.first r.in_front))))
+      (yes_returns (local_first text spaced (name_at last.registers r.first) []) (made_returns (register_again m.text text bytes last spaced _ r.between r.front r.first r.in_front))))
 
   const_back : (ty : Ty) → TypeFits ty → {s t : Locals} (tokens : List Token) (o : Operand) → (const_operand m ty).means s tokens o t → Returns text last (an_operand (over m text) ty) (shown ty o) o s t
   unfolding const_operand an_operand
@@ -120,8 +119,8 @@ module _ (m : Meaning) (text : List ℕ) (bytes : AreBytes m.text) (fit : TypesF
       let c : Const = r.first in
       let spells = const_again m text bytes fit DEPTH ty fits spaced r.front c r.in_front.0 in
       value_is (an_operand (over m text) ty) (shown ty) r.in_back.1 (ending r.in_back.2
-        (no_returns (begins_alone text (is_kind kind.Local) false (a_const (over m text) DEPTH ty) (const_no_local (over m text) DEPTH ty) tt tt c (const_pieces (spelled_by m) c ty spaced) spells)
-          (made_returns (lifted (a_const (over m text) DEPTH ty) r.in_front.1 spells))))
+      (no_returns (begins_alone text (is_kind kind.Local) false (a_const (over m text) DEPTH ty) (const_no_local (over m text) DEPTH ty) tt tt c (const_pieces (spelled_by m) c ty spaced) spells)
+      (made_returns (lifted (a_const (over m text) DEPTH ty) r.in_front.1 spells))))
 
   pub operand_back : (ty : Ty) → TypeFits ty → {s t : Locals} (tokens : List Token) (o : Operand) → (an_operand m ty).means s tokens o t → Returns text last (an_operand (over m text) ty) (shown ty o) o s t
   unfolding an_operand
@@ -133,12 +132,12 @@ module _ (m : Meaning) (text : List ℕ) (bytes : AreBytes m.text) (fit : TypesF
   unfolding an_operand register_operand const_operand
   operand_plain ty fits s t tokens o (inl r) =
       subst (λ x. Begins text (begins_attribute text) false (shown ty x)) (sym r.1.in_back.1)
-        (begins text (begins_attribute text) false (local_name spaced (name_at last.registers r.1.first)) (λ token h. ap (λ k. begins_by k (spelled text token)) h.kind))
+      (begins text (begins_attribute text) false (local_name spaced (name_at last.registers r.1.first)) (λ token h. ap (λ k. begins_by k (spelled text token)) h.kind))
   operand_plain ty fits s t tokens o (inr r) =
       let c : Const = r.1.first in
       let spells = const_again m text bytes fit DEPTH ty fits spaced r.1.front c r.1.in_front.0 in
       subst (λ x. Begins text (begins_attribute text) false (shown ty x)) (sym r.1.in_back.1)
-        (begins_alone text (begins_attribute text) false (a_const (over m text) DEPTH ty) (const_no_attribute (over m text) DEPTH ty) tt tt c (const_pieces (spelled_by m) c ty spaced) spells)
+      (begins_alone text (begins_attribute text) false (a_const (over m text) DEPTH ty) (const_no_attribute (over m text) DEPTH ty) tt tt c (const_pieces (spelled_by m) c ty spaced) spells)
 
   pub pointer_back : {s t : Locals} (tokens : List Token) (o : Operand) → (a_pointer m).means s tokens o t → Returns text last (a_pointer (over m text)) (pointer (spelled_by m) (named_by last) o) o s t
   unfolding a_pointer
@@ -149,7 +148,7 @@ module _ (m : Meaning) (text : List ℕ) (bytes : AreBytes m.text) (fit : TypesF
   sized_back tokens x r =
       let k = r.in_back in
       value_is (sized_operand (over m text)) (λ x. sized (spelled_by m) (named_by last) x.0 x.1) k.in_back.1 (ending k.in_back.2
-        (then_returns (width_back spaced r.front r.first r.in_front) (made_returns (operand_back (ty.Int r.first) (int_fits r.first (width_read r.front r.first r.in_front)) k.front k.first k.in_front))))
+      (then_returns (width_back spaced r.front r.first r.in_front) (made_returns (operand_back (ty.Int r.first) (int_fits r.first (width_read r.front r.first r.in_front)) k.front k.first k.in_front))))
 
   pub label_back : {s t : Locals} (tokens : List Token) (l : ℕ) → (a_label m.text).means s tokens l t → Returns text last (a_label text) (label (spelled_by m) (named_by last) l) l s t
   unfolding a_label

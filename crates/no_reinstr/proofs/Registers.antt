@@ -1,5 +1,5 @@
 -- Registers and labels are numbered again by their names.
-use Rattle.std.proofs.Common.{◌≡◌, ℕ, ◌+◌, ◌-◌, ◌==◌, Bool, true, false, List, [], ◌∷◌, ◌++◌, length, take, drop, reverse, bytes_eq, codes, Result, Ok, Err, if◌then◌else◌, refl, sym, ap, subst, ◌∙◌, arith, length-append}
+use Rattle.std.proofs.Common.{◌≡◌, ℕ, ◌-◌, ◌==◌, Bool, true, false, List, [], ◌∷◌, ◌++◌, length, take, drop, reverse, bytes_eq, codes, Result, Ok, Err, if◌then◌else◌, refl, sym, ap, subst, ◌∙◌, arith, length-append}
 use Rattle.std.proofs.Math.Seq.{take-append_seam}
 use Rattle.no_lex.specs.declared.token.Token.{Token}
 use Rattle.no_lex.specs.declared.token.TokenKind.{TokenKind}
@@ -16,14 +16,13 @@ use Rattle.no_locals.specs.Numbered.{register_named, label_named, register_defin
 use Rattle.no_locals.specs.Numbered as numbered
 use Rattle.no_print.specs.Names.{name_at, spelling, quoted, label_spelling, local_name, label_line}
 use Rattle.no_print.specs.Pieces.{Piece}
-use Rattle.no_print.specs.Stand.{IsPiece}
-use Rattle.no_reread.specs.Spells.{AreBytes, Spells}
+use Rattle.no_reread.specs.Spells.{AreBytes}
 use Rattle.no_reread.proofs.Bytes.{bytes_name, bytes_spelled}
 use Rattle.no_reread.proofs.Found.{bytes_take, bytes_drop}
 use Rattle.no_reread.proofs.Frame.{one_spells}
 use Rattle.no_reread.proofs.Names.{name_again, string_again}
 use Rattle.no_reread.proofs.Opening.{from_fine}
-use Rattle.no_reinstr.specs.States.{Like, IsFine}
+use Rattle.no_reinstr.specs.States.{IsFine}
 use Rattle.no_reinstr.proofs.Returning.{Returns}
 use Rattle.no_reinstr.proofs.Within.{name_placed, grown, names_with, bytes_back, bytes_next, bytes_counter}
 
@@ -58,7 +57,7 @@ module _ (text : List ℕ) (last : Locals) where
 
   register_returns : (c : Locals → List ℕ → List ℕ) (gap name counter : List ℕ) (s : Locals) → (IsFine s → AreBytes name) → (IsFine s → AreBytes counter)
       → Returns text last (a_register_by c) (local_name gap (name_at last.registers (place_of s.registers name))) (place_of s.registers name) s
-          (record { registers = with_name s.registers name; labels = s.labels; counter = counter })
+      (record { registers = with_name s.registers name; labels = s.labels; counter = counter })
   register_returns c gap name counter s b k = record {
     fine = λ h. record { registers = names_with s.registers name h.registers (b h); labels = h.labels; counter = k h };
     holds = λ w. record { registers = grown s.registers last.registers name w.registers; labels = w.labels };
@@ -69,10 +68,12 @@ module _ (text : List ℕ) (last : Locals) where
         let u : Locals = record { registers = with_name z.registers name; labels = z.labels; counter = c z name } in
         let p : Piece = record { gap = gap; kind = kind.Local; bytes = 37 ∷ spelling (name_at last.registers n) } in
         let good : List ℕ → Answer = λ x. Ok (place_of z.registers x, record { registers = with_name z.registers x; labels = z.labels; counter = c z x }) in
-        let placed : List (List ℕ) → Answer = λ r. Ok (place_of r name, u) in
-        (u, record { registers = ap (λ r. with_name r name) l.registers; labels = l.labels },
+        let placed : List (List ℕ) → Answer = λ r. Ok (place_of r name, u) in (
+          u,
+          record { registers = ap (λ r. with_name r name) l.registers; labels = l.labels },
           one_spells text (λ z token. register_by c z token.kind (spelled text token)) z p n u (λ token x.
-            ap (λ k. register_by c z k (spelled text token)) x.kind ∙ ap (register_by c z kind.Local) x.bytes ∙ ap good back ∙ ap placed l.registers));
+              ap (λ k. register_by c z k (spelled text token)) x.kind ∙ ap (register_by c z kind.Local) x.bytes ∙ ap good back ∙ ap placed l.registers),
+        );
   }
 
   -- ---- labels
@@ -85,7 +86,7 @@ module _ (text : List ℕ) (last : Locals) where
 
   label_returns : (gap name counter : List ℕ) (s : Locals) → (IsFine s → AreBytes name) → (IsFine s → AreBytes counter)
       → Returns text last (a_label_name text) (local_name gap (name_at last.labels (place_of s.labels name))) (place_of s.labels name) s
-          (record { registers = s.registers; labels = with_name s.labels name; counter = counter })
+      (record { registers = s.registers; labels = with_name s.labels name; counter = counter })
   label_returns gap name counter s b k = record {
     fine = λ h. record { registers = h.registers; labels = names_with s.labels name h.labels (b h); counter = k h };
     holds = λ w. record { registers = w.registers; labels = grown s.labels last.labels name w.labels };
@@ -96,10 +97,12 @@ module _ (text : List ℕ) (last : Locals) where
         let u : Locals = record { registers = z.registers; labels = with_name z.labels name; counter = z.counter } in
         let p : Piece = record { gap = gap; kind = kind.Local; bytes = 37 ∷ spelling (name_at last.labels n) } in
         let good : List ℕ → Answer = λ x. Ok (place_of z.labels x, record { registers = z.registers; labels = with_name z.labels x; counter = z.counter }) in
-        let placed : List (List ℕ) → Answer = λ r. Ok (place_of r name, u) in
-        (u, record { registers = l.registers; labels = ap (λ r. with_name r name) l.labels },
+        let placed : List (List ℕ) → Answer = λ r. Ok (place_of r name, u) in (
+          u,
+          record { registers = l.registers; labels = ap (λ r. with_name r name) l.labels },
           one_spells text (λ z token. label_used_by z token.kind (spelled text token)) z p n u (λ token x.
-            ap (λ k. label_used_by z k (spelled text token)) x.kind ∙ ap (label_used_by z kind.Local) x.bytes ∙ ap good back ∙ ap placed l.labels));
+              ap (λ k. label_used_by z k (spelled text token)) x.kind ∙ ap (label_used_by z kind.Local) x.bytes ∙ ap good back ∙ ap placed l.labels),
+        );
   }
 
   abbrev label_set_by : Locals → TokenKind → List ℕ → Answer
@@ -107,7 +110,7 @@ module _ (text : List ℕ) (last : Locals) where
 
   block_label_returns : (gap name counter : List ℕ) (s : Locals) → (IsFine s → AreBytes name) → (IsFine s → AreBytes counter) → label_fits name ≡ true
       → Returns text last (a_block_label text) (label_line gap (name_at last.labels (place_of s.labels name))) (place_of s.labels name) s
-          (record { registers = s.registers; labels = with_name s.labels name; counter = counter })
+      (record { registers = s.registers; labels = with_name s.labels name; counter = counter })
   block_label_returns gap name counter s b k fits = record {
     fine = λ h. record { registers = h.registers; labels = names_with s.labels name h.labels (b h); counter = k h };
     holds = λ w. record { registers = w.registers; labels = grown s.labels last.labels name w.labels };
@@ -118,10 +121,12 @@ module _ (text : List ℕ) (last : Locals) where
         let u : Locals = record { registers = z.registers; labels = with_name z.labels name; counter = behind_name z.counter name } in
         let p : Piece = record { gap = gap; kind = kind.Label; bytes = label_spelling (name_at last.labels n) ++ 58 ∷ [] } in
         let passed : Bool → Answer = λ d. if d then Ok (place_of z.labels name, u) else Err Number in
-        let placed : List (List ℕ) → Answer = λ r. Ok (place_of r name, u) in
-        (u, record { registers = l.registers; labels = ap (λ r. with_name r name) l.labels },
+        let placed : List (List ℕ) → Answer = λ r. Ok (place_of r name, u) in (
+          u,
+          record { registers = l.registers; labels = ap (λ r. with_name r name) l.labels },
           one_spells text (λ z token. label_set_by z token.kind (spelled text token)) z p n u (λ token x.
-            ap (λ k. label_set_by z k (spelled text token)) x.kind ∙ ap (label_set_by z kind.Label) x.bytes ∙ ap (label_by z) back ∙ ap passed fits ∙ ap placed l.labels));
+              ap (λ k. label_set_by z k (spelled text token)) x.kind ∙ ap (label_set_by z kind.Label) x.bytes ∙ ap (label_by z) back ∙ ap passed fits ∙ ap placed l.labels),
+        );
   }
 
 -- ---- what the first text has
@@ -185,7 +190,7 @@ module _ (from text : List ℕ) (bytes : AreBytes from) (last : Locals) where
       by : (b c : Bool) → label_fits name ≡ c → (if b then (if c then Ok (label_defined s name) else Err Number) else Err Syntax) ≡ Ok (r, t) → Begun gap s (r, t)
       by true true fits e =
           subst (Begun gap s) (same_answer (label_defined s name) (r, t) e)
-            (block_label_returns text last gap name (behind_name s.counter name) s (λ h. label_bytes m.token) (λ h. bytes_counter s.counter name h.counter (label_bytes m.token)) fits)
+          (block_label_returns text last gap name (behind_name s.counter name) s (λ h. label_bytes m.token) (λ h. bytes_counter s.counter name h.counter (label_bytes m.token)) fits)
       by true false fits e = absurd cc
       by false c fits e = absurd cc
 

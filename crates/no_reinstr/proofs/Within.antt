@@ -1,6 +1,5 @@
 -- Names that more names follow keep their places.
-use Rattle.std.proofs.Common.{◌≡◌, ℕ, suc, zero, ◌+◌, ◌-◌, ◌<◌, Bool, true, false, not, cond, ◌||◌, List, [], ◌∷◌, ◌++◌, take, drop, reverse, slice_get, unwrap_or, bytes_eq, nat_lt, ◌==◌, Option, Some, None, if◌then◌else◌, refl, sym, ap, subst, ◌∙◌, append_assoc, append-nil, arith}
-use Rattle.std.specs.List.{list_any, position_or_len}
+use Rattle.std.proofs.Common.{◌≡◌, ℕ, suc, ◌+◌, ◌<◌, Bool, true, false, not, cond, ◌||◌, List, [], ◌∷◌, ◌++◌, reverse, bytes_eq, nat_lt, ◌==◌, if◌then◌else◌, refl, sym, ap, subst, ◌∙◌, append_assoc, arith}
 use Rattle.std.proofs.lemmas.List.{reverse-append}
 use Rattle.std.proofs.lemmas.Bool.{ltb-true}
 use Rattle.std.proofs.lemmas.Slice.Eq.{bytes_eq-Decides}
@@ -15,10 +14,6 @@ use Rattle.no_reinstr.specs.States.{Within, AreNames}
 
 pub same_bytes : (bytes : List ℕ) → bytes_eq bytes bytes ≡ true
 same_bytes bytes = (bytes_eq-Decides bytes bytes).1 refl
-
--- where a name stands among names that hold it
-Stands : List (List ℕ) → List ℕ → Type 0
-Stands names name = name_at names (place_of names name) ≡ name
 
 name_behind : (first name : List ℕ) (names : List (List ℕ)) (n : ℕ) → name_at names n ≡ name → name_at (first ∷ names) (1 + n) ≡ name
 name_behind first name names n e = let one : 1 + n ≡ suc n = omega arith in ap (name_at (first ∷ names)) one ∙ e

@@ -1,16 +1,15 @@
 -- Whole instructions are read again.
-use Rattle.std.proofs.Common.{◌≡◌, ℕ, Bool, true, false, ◌&&◌, ◌==◌, List, [], ◌∷◌, ◌++◌, bytes_eq, codes, Option, Some, None, is_some, Result, Ok, Err, ◌⊎◌, inl, inr, if◌then◌else◌, refl, sym, ap, subst, ◌∙◌, append_assoc}
+use Rattle.std.proofs.Common.{◌≡◌, ℕ, Bool, true, false, ◌&&◌, ◌==◌, List, ◌++◌, bytes_eq, codes, Option, Some, None, Ok, ◌⊎◌, inl, inr, refl, sym, ap, subst, ◌∙◌, append_assoc}
 use Rattle.no_lex.specs.declared.token.Token.{Token}
 use Rattle.no_lex.specs.declared.token.TokenKind.TheVariants as kind
 use Rattle.no_ir.specs.declared.function.Role.{Role}
 use Rattle.no_ir.specs.declared.types.Ty.{Ty}
 use Rattle.no_ir.specs.declared.types.Ty.TheVariants as ty
 use Rattle.no_ir.specs.declared.instruction.Op.{Op}
-use Rattle.no_ir.specs.declared.instruction.Op.TheVariants as op
 use Rattle.no_ir.specs.declared.instruction.Instr.{Instr}
-use Rattle.no_grammar.specs.Rules.{Rule, plain, done, ◌>>=◌, lift, if_next}
+use Rattle.no_grammar.specs.Rules.{plain}
 use Rattle.no_grammar.specs.Scope.{Meaning}
-use Rattle.no_grammar.specs.Spelled.{spelled, kind_number, is_kind, is_sign, is_word, only_where}
+use Rattle.no_grammar.specs.Spelled.{spelled, kind_number, is_kind, is_sign, only_where}
 use Rattle.no_attrs.specs.Attributes.{begins_by, begins_attribute}
 use Rattle.no_locals.specs.declared.locals.Locals.{Locals}
 use Rattle.no_locals.specs.Numbered.{a_definition, no_name}
@@ -18,7 +17,7 @@ use Rattle.no_forms.specs.Operands.{some_type}
 use Rattle.no_forms.specs.Simple.{binary, cast_form, compare, freeze, select}
 use Rattle.no_forms.specs.Memory.{load, store}
 use Rattle.no_forms.specs.Flow.{ret, br, switch}
-use Rattle.no_instr.specs.Calls.{result_of, void_of, void_call, typed_call, call_type, call_form, call_parts}
+use Rattle.no_instr.specs.Calls.{void_of, void_call, typed_call, call_type, call_form}
 use Rattle.no_instr.specs.Heads.{instr_head}
 use Rattle.no_instr.specs.Instructions.{giver_form, action_form, giving, acting, tail_call, after_instr_head, instr_body, named_instr, an_instr}
 use Rattle.no_instr.specs.declared.heads.Giver.{Giver}
@@ -28,7 +27,7 @@ use Rattle.no_instr.specs.declared.heads.Action.TheVariants as action
 use Rattle.no_instr.specs.declared.heads.InstrHead.{InstrHead}
 use Rattle.no_instr.specs.declared.heads.InstrHead.TheVariants as head
 use Rattle.no_print.specs.Names.{name_at, local_name}
-use Rattle.no_print.specs.Pieces.{Piece, spaced, indented, glued, word, sign}
+use Rattle.no_print.specs.Pieces.{Piece, spaced, indented, word, sign}
 use Rattle.no_print.specs.Constants.{type_at}
 use Rattle.no_print.specs.Instructions.{inserted_pieces, op_pieces, with_result, instr_pieces}
 use Rattle.no_reread.specs.Spells.{AreBytes, Spells, TypesFit, over, spelled_by}
@@ -45,7 +44,7 @@ use Rattle.no_reinstr.proofs.Heads.{giver_bytes, action_bytes, giver_head, actio
 use Rattle.no_reinstr.proofs.Memory.{load_back, store_back, address_back}
 use Rattle.no_reinstr.proofs.Operands.{local_first, word_first, sign_back, type_any, type_not, type_plain}
 use Rattle.no_reinstr.proofs.Registers.{definition_again, no_name_again}
-use Rattle.no_reinstr.proofs.Returning.{Returns, ending, starting, given, lifted, value_is, pieces_are, done_returns, yes_returns, no_returns, then_returns, made_returns}
+use Rattle.no_reinstr.proofs.Returning.{Returns, lifted, pieces_are, done_returns, yes_returns, no_returns, then_returns, made_returns}
 
 module _ (m : Meaning) (text : List ℕ) (bytes : AreBytes m.text) (fit : TypesFit m.types) (last : Locals) (role : Role) where
   -- ---- forms
@@ -116,9 +115,9 @@ module _ (m : Meaning) (text : List ℕ) (bytes : AreBytes m.text) (fit : TypesF
         are = λ gap. refl;
         back = λ gap. pieces_are (ap (λ l. word gap (codes "call") ++ l) (sym (append_assoc shown rest (inserted_pieces c.inserted))))
             (then_returns (lifted (plain (instr_head text true)) refl (head_spells text gap true (codes "call") head.Call (call_head true)))
-              (plain_returns (type_plain m text bytes fit last spaced v1 v2 front of all typed)
-                (no_returns (type_not m text bytes fit last spaced (codes "void") v1 v2 front of all (record { one = refl; byte = refl; short = refl; half = refl; full = refl; pointer = refl }) typed)
-                  (then_returns (type_any m text bytes fit last spaced front of typed) (then_returns (done_returns r) (made_returns {g = λ x. x} c.back))))));
+            (plain_returns (type_plain m text bytes fit last spaced v1 v2 front of all typed)
+            (no_returns (type_not m text bytes fit last spaced (codes "void") v1 v2 front of all (record { one = refl; byte = refl; short = refl; half = refl; full = refl; pointer = refl }) typed)
+            (then_returns (type_any m text bytes fit last spaced front of typed) (then_returns (done_returns r) (made_returns {g = λ x. x} c.back))))));
       })
 
   void_first : (rest : List Piece) → Begins text (begins_attribute text) false (word spaced (codes "void") ++ rest)
@@ -250,8 +249,8 @@ module _ (m : Meaning) (text : List ℕ) (bytes : AreBytes m.text) (fit : TypesF
       let rest : List Piece = word spaced works.w ++ (works.pieces ++ inserted_pieces i.inserted) in
       let whole : List Piece = name ++ (sign spaced (codes "=") ++ rest) in
       let shape : with_result (spelled_by m) (named_by last) i.result i.op ++ inserted_pieces i.inserted ≡ whole =
-          ap (λ (o : Option ℕ). with_result (spelled_by m) (named_by last) o i.op ++ inserted_pieces i.inserted) works.result
-          ∙ ap (λ l. name ++ (sign spaced (codes "=") ++ (l ++ inserted_pieces i.inserted))) (works.are spaced) in
+      ap (λ (o : Option ℕ). with_result (spelled_by m) (named_by last) o i.op ++ inserted_pieces i.inserted) works.result
+      ∙ ap (λ l. name ++ (sign spaced (codes "=") ++ (l ++ inserted_pieces i.inserted))) (works.are spaced) in
       record {
         no_close = λ more. subst (λ l. Begins text (is_sign text (codes "}")) false (l ++ more)) (sym shape) (begins text (is_sign text (codes "}")) false (whole ++ more) (λ token h. sign_tested text (codes "}") _ token h));
         no_label = λ more. subst (λ l. Begins text (is_kind kind.Label) false (l ++ more)) (sym shape) (begins text (is_kind kind.Label) false (whole ++ more) (λ token h. kind_tested text kind.Label _ token h));
@@ -264,7 +263,7 @@ module _ (m : Meaning) (text : List ℕ) (bytes : AreBytes m.text) (fit : TypesF
   without_name i s t works =
       let whole : List Piece = word indented works.w ++ (works.pieces ++ inserted_pieces i.inserted) in
       let shape : with_result (spelled_by m) (named_by last) i.result i.op ++ inserted_pieces i.inserted ≡ whole =
-          ap (λ (o : Option ℕ). with_result (spelled_by m) (named_by last) o i.op ++ inserted_pieces i.inserted) works.result ∙ ap (λ l. l ++ inserted_pieces i.inserted) (works.are indented) in
+      ap (λ (o : Option ℕ). with_result (spelled_by m) (named_by last) o i.op ++ inserted_pieces i.inserted) works.result ∙ ap (λ l. l ++ inserted_pieces i.inserted) (works.are indented) in
       record {
         no_close = λ more. subst (λ l. Begins text (is_sign text (codes "}")) false (l ++ more)) (sym shape) (begins text (is_sign text (codes "}")) false (whole ++ more) (λ token h. sign_tested text (codes "}") _ token h));
         no_label = λ more. subst (λ l. Begins text (is_kind kind.Label) false (l ++ more)) (sym shape) (begins text (is_kind kind.Label) false (whole ++ more) (λ token h. kind_tested text kind.Label _ token h));
@@ -281,6 +280,6 @@ module _ (m : Meaning) (text : List ℕ) (bytes : AreBytes m.text) (fit : TypesF
       let b = subst (λ (j : Instr). Worked (Some r) j k.1.between x.between) (sym x.in_back.1) a in
       with_name r i s k.1.between t (definition_again m.text text bytes last indented s k.1.between k.1.front r k.1.in_front) (subst (λ v. Worked (Some r) i k.1.between v) (sym x.in_back.2) b)
   instr_back s t tokens i (inr k) = elim (body_unnamed s t tokens i k.1) [
-      inl works ↦ without_name i s t works
+    | inl works ↦ without_name i s t works
     | inr u ↦ with_name u.register i s u.between t (no_name_again m.text text bytes last indented s u.between u.tokens u.register u.named) u.works
-    ]
+  ]
