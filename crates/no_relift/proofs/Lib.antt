@@ -1,0 +1,3 @@
+pub mod Endings
+pub mod Renaming
+pub mod Renumbering
