@@ -1,4 +1,6 @@
+pub mod Defined
 pub mod Orders
+pub mod Picks
 pub mod Endings
 pub mod Renaming
 pub mod Renumbering
