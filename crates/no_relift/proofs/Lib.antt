@@ -1,3 +1,5 @@
+pub mod Untyped
+pub mod First
 pub mod Defined
 pub mod Orders
 pub mod Picks
