@@ -1,3 +1,4 @@
+pub mod Second
 pub mod Untyped
 pub mod First
 pub mod Defined

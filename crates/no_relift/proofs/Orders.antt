@@ -78,7 +78,7 @@ abbrev pub counting : ℕ → ℕ → List ℕ
 counting k zero = []
 counting k (suc n) = k ∷ counting (suc k) n
 
-counting_long : (k n : ℕ) → length (counting k n) ≡ n
+pub counting_long : (k n : ℕ) → length (counting k n) ≡ n
 counting_long k zero = refl
 counting_long k (suc n) = ap suc (counting_long (suc k) n)
 
