@@ -18,15 +18,28 @@ use Rattle.no_print.specs.Modules.{module_pieces, module_text, spelled_in}
 use Rattle.no_print.specs.Stand.{Stand}
 use Rattle.no_relex.specs.Lexed.{LexesAs}
 use Rattle.no_reread.specs.Spells.{AreBytes, TypesFit, over, spelled_by}
+use Rattle.no_relift.specs.Rest.{rest_pieces}
 use Rattle.no_retop.specs.Printed.{form_pieces}
 use Rattle.no_back.specs.Back.{text_limit, ReadsTo, PrintedReadBack}
-use Rattle.no_back.specs.Types.{TypesLift, TypesSpell}
 
 -- ---- the laws of the parts
 
 -- the text of a module lexes
 abbrev pub TextsLex : Type 0
 TextsLex = (limit : ℕ) (m : Module) → length (module_text m) ≤ limit → LexesAs limit (module_text m) (module_pieces m)
+
+-- its type definitions are lifted again
+abbrev pub TypesLift : Type 0
+TypesLift =
+    (from : List ℕ) (read : List Token) (lifted : Lifted) (m : Module) (text : List ℕ) (tokens : List Token)
+    → AreBytes from → Lifts from read (Ok lifted) → m.types ≡ zip lifted.named lifted.types → Stand text tokens (module_pieces m)
+    → (other : Lifted) × Lifts text tokens (Ok other) × (other.named ≡ lifted.named) × (other.types ≡ lifted.types) × Stand text other.rest (rest_pieces m)
+
+-- a module is spelled with the names and types that were lifted
+abbrev pub TypesSpell : Type 0
+TypesSpell =
+    (from : List ℕ) (read : List Token) (lifted : Lifted) (m : Module) → Lifts from read (Ok lifted) → m.types ≡ zip lifted.named lifted.types
+    → ((spelled_in m).named ≡ lifted.named) × ((spelled_in m).types ≡ lifted.types)
 
 -- types that were lifted fit
 abbrev pub LiftedFit : Type 0
@@ -73,7 +86,7 @@ module _ (lex : TextsLex) (lift : TypesLift) (spell : TypesSpell) (fit : LiftedF
       let f = functions before role types lifted.rest m first.forms in
       λ i. record { named = sym s.0 i; types = sym s.1 i; globals = g i; functions = f i }
 
-  module _ (again : List ℕ) (other : Lifted) (named : other.named ≡ lifted.named) (same : other.types ≡ lifted.types) (stand : Stand again other.rest (form_pieces (spelled_in m) m)) where
+  module _ (again : List ℕ) (other : Lifted) (named : other.named ≡ lifted.named) (same : other.types ≡ lifted.types) (stand : Stand again other.rest (rest_pieces m)) where
     meant : IsModuleOf (over before again) role types other.rest m
     meant = mean before again role types lifted.rest other.rest m bytes (fit text tokens lifted first.lifts) first.forms
         (subst (λ (s : Spelled). Stand again other.rest (form_pieces s m)) (sym spelled_so) stand)

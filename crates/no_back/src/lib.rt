@@ -4,20 +4,19 @@
 #![tactic(auto)]
 
 ghost use Rattle.no_back.specs.Back.{PrintedReadBack};
-ghost use Rattle.no_back.specs.Types.{TypesLift, TypesSpell};
 
 use no_named::names_are_the_modules;
 use no_relex::a_module_lexes;
+use no_relift::definitions_lift_again;
 use no_retop::modules_mean_again;
 
 /// If the tokens of a text of bytes read to a module, the text that the module is printed as reads to the same module in the same
 /// role, where it is within the role's limit: 16,777,216 bytes of a source, and 268,435,456 of a part.
-///
-/// It is given that type definitions are lifted again.
 pub fn printed_modules_read_back()
-    ensures { TypesLift → TypesSpell → PrintedReadBack }
+    ensures { PrintedReadBack }
 {
     a_module_lexes();
+    definitions_lift_again();
     modules_mean_again();
     names_are_the_modules();
 }
