@@ -98,7 +98,7 @@ module _ (m : Meaning) (lifted : Lifted) (defined : List Definition) (new : Each
       let two : map (λ d. map number (references d.ty)) picks ≡ map (λ n. get_or (map (λ d. map number (references d.ty)) defined) n []) order = picks_are (λ d. map number (references d.ty)) [] defined order below in
       let three : map (map number) graph ≡ map (λ d. map number (references d.ty)) defined = map_twice (λ d. references d.ty) (map number) defined in
       let four : map (λ n. get_or (map (λ d. map number (references d.ty)) defined) n []) order ≡ map (λ n. map number (get_or graph n [])) order =
-          map_alike (λ n. get_or (map (λ d. map number (references d.ty)) defined) n []) (λ n. map number (get_or graph n [])) order (λ n. ap (λ l. get_or l n []) (sym three) ∙ listn.get_or-map (map number) graph n []) in
+      map_alike (λ n. get_or (map (λ d. map number (references d.ty)) defined) n []) (λ n. map number (get_or graph n [])) order (λ n. ap (λ l. get_or l n []) (sym three) ∙ listn.get_or-map (map number) graph n []) in
       subst (λ n. IsLow n 0 (map (λ d. references (renumbered number d.ty)) picks)) (sym picks_long)
       (subst (IsLow (length graph) 0) (sym (one ∙ two ∙ four)) (order_low graph order below_graph [] order refl whole.is))
 

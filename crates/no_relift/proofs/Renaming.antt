@@ -34,15 +34,17 @@ done_gives g a b e = record { gives = λ s t tokens c m. (m.0, ap g m.1 ∙ e, m
 
 module _ {A B C D : Type 0} (g : A → B) (h : C → D) where
   then_gives : (p : Rule (Unit {0}) A) (q : Rule (Unit {0}) B) (x : A → Rule (Unit {0}) C) (y : B → Rule (Unit {0}) D) → Gives g p q → ((a : A) → Gives h (x a) (y (g a))) → Gives h (p >>= x) (q >>= y)
-  then_gives p q x y first others = record { gives = λ s t tokens c m. record {
-    front = m.front;
-    back = m.back;
-    first = g m.first;
-    between = m.between;
-    parts = m.parts;
-    in_front = first.gives s m.between m.front m.first m.in_front;
-    in_back = (others m.first).gives m.between t m.back c m.in_back;
-  } }
+  then_gives p q x y first others = record {
+    gives = λ s t tokens c m. record {
+      front = m.front;
+      back = m.back;
+      first = g m.first;
+      between = m.between;
+      parts = m.parts;
+      in_front = first.gives s m.between m.front m.first m.in_front;
+      in_back = (others m.first).gives m.between t m.back c m.in_back;
+    };
+  }
 
 abbrev fine : {X : Type 0} → X → Result X Flaw
 fine x = Ok x

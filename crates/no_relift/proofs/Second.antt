@@ -206,8 +206,8 @@ picked_all before [] = refl
 picked_all before (d ∷ ds) =
     let long : length (before ++ d ∷ []) ≡ suc (length before) = (let l = length-append before (d ∷ []) in omega arith) in
     let more : picked (before ++ d ∷ ds) (counting (suc (length before)) (length ds)) ≡ ds =
-        ap (λ l. picked l (counting (suc (length before)) (length ds))) (sym (append_assoc before (d ∷ []) ds))
-        ∙ ap (λ n. picked ((before ++ d ∷ []) ++ ds) (counting n (length ds))) (sym long) ∙ picked_all (before ++ d ∷ []) ds in
+    ap (λ l. picked l (counting (suc (length before)) (length ds))) (sym (append_assoc before (d ∷ []) ds))
+    ∙ ap (λ n. picked ((before ++ d ∷ []) ++ ds) (counting n (length ds))) (sym long) ∙ picked_all (before ++ d ∷ []) ds in
     ap (λ o. as_list o ++ picked (before ++ d ∷ ds) (counting (suc (length before)) (length ds))) (slice_at before d ds) ∙ ap (λ l. d ∷ l) more
 
 module _ (ds : List Definition) (new : EachNew [] (map picks.name_of ds)) (low : IsLow (length ds) 0 (graph_of ds)) where
