@@ -14,7 +14,11 @@ folder=${KEEP:-$(mktemp -d)}
 mkdir -p "$folder"
 [ -n "${KEEP-}" ] || trap 'rm -rf "$folder"' EXIT
 python3 - "$folder" "$@" <<'PYTHON'
-import glob, os, re, shutil, signal, subprocess, sys, time
+import glob, os, re, shutil, sys
+
+sys.dont_write_bytecode = True
+sys.path.insert(0, "bench")
+from measuring import measured, written
 
 FOLDER, ASKED = sys.argv[1], sys.argv[2:]
 LIMIT, SECONDS = 16777216, 300
@@ -118,32 +122,6 @@ TEXTS = {
 }
 
 
-def written(file, make):
-    """Writes a text in a process of its own, since the memory of this one counts for those that it starts."""
-    child = os.fork()
-    if child == 0:
-        with open(file, "w") as it:
-            it.write(make())
-        os._exit(0)
-    if os.waitpid(child, 0)[1] != 0:
-        sys.exit(f"profile: {file} was not written")
-
-
-def measured(words):
-    """Runs a command: seconds, MiB at most, the last line of what it says (or the signal that ended it)."""
-    start = time.monotonic()
-    with open(f"{FOLDER}/said", "wb") as said, open(os.devnull, "rb") as nothing:
-        child = subprocess.Popen(words, stdin=nothing, stdout=subprocess.DEVNULL, stderr=said)
-        signal.signal(signal.SIGALRM, lambda *_: child.kill())
-        signal.alarm(SECONDS)
-        _, status, used = os.wait4(child.pid, 0)
-        signal.alarm(0)
-    child.returncode = status
-    lines = open(f"{FOLDER}/said", errors="replace").read().strip().split("\n")
-    said = lines[-1] if os.WIFEXITED(status) else f"ended by signal {os.WTERMSIG(status)}"
-    return time.monotonic() - start, used.ru_utime + used.ru_stime, used.ru_maxrss / 1024, said, lines[0], status
-
-
 assembler = next((it for it in ("llvm-as-19", "llvm-as-16", "llvm-as") if shutil.which(it)), None)
 found = {}
 print(f"{'text':24}{'bytes':>10}{'seconds':>9}{'cpu':>8}{'MiB':>8}{'times':>7}  answer")
@@ -153,11 +131,11 @@ for name, make in TEXTS.items():
     file = f"{FOLDER}/{name}.ll"
     written(file, make)
     size = os.path.getsize(file)
-    wall, cpu, room, said, _, _ = measured([os.environ["NATIVEOFF"], "local", file, "--steps", "0"])
+    wall, cpu, room, said, _, _ = measured([os.environ["NATIVEOFF"], "local", file, "--steps", "0"], FOLDER, SECONDS)
     found[name] = (size, cpu, room)
     print(f"{name:24}{size:>10}{wall:>9.2f}{cpu:>8.2f}{room:>8.0f}{room * 1048576 / size:>7.1f}  {said.removeprefix('nativeoff: ')}", flush=True)
     if assembler and name.startswith("module-"):
-        wall, cpu, room, _, first, status = measured([assembler, "-o", "/dev/null", file])
+        wall, cpu, room, _, first, status = measured([assembler, "-o", "/dev/null", file], FOLDER, SECONDS)
         print(f"  {assembler:22}{'':>10}{wall:>9.2f}{cpu:>8.2f}{room:>8.0f}{room * 1048576 / size:>7.1f}  {'reads' if status == 0 else first[:80]}", flush=True)
     if "KEEP" not in os.environ:
         os.remove(file)

@@ -18,7 +18,11 @@ case " $* " in
   "  " | *" module-16 "*) KEEP=$folder bash bench/profile.sh module-16 >/dev/null ;;
 esac
 python3 - "$folder" "$@" <<'PYTHON'
-import os, signal, subprocess, sys, time
+import os, sys
+
+sys.dont_write_bytecode = True
+sys.path.insert(0, "bench")
+from measuring import measured, written
 
 FOLDER, ASKED = sys.argv[1], sys.argv[2:]
 SECONDS = int(os.environ.get("SECONDS_AT_MOST", "300"))
@@ -104,31 +108,6 @@ MODULES = {
 }
 
 
-def written(file, make):
-    """Writes a text in a process of its own, since the memory of this one counts for those that it starts."""
-    child = os.fork()
-    if child == 0:
-        with open(file, "w") as it:
-            it.write(make())
-        os._exit(0)
-    if os.waitpid(child, 0)[1] != 0:
-        sys.exit(f"verify: {file} was not written")
-
-
-def measured(words):
-    """Runs a command: seconds of the processor, MiB at most, the last line of what it says (or the signal that ended it)."""
-    with open(f"{FOLDER}/said", "wb") as said, open(os.devnull, "rb") as nothing:
-        child = subprocess.Popen(words, stdin=nothing, stdout=subprocess.DEVNULL, stderr=said)
-        signal.signal(signal.SIGALRM, lambda *_: child.kill())
-        signal.alarm(SECONDS)
-        _, status, used = os.wait4(child.pid, 0)
-        signal.alarm(0)
-    child.returncode = status
-    lines = open(f"{FOLDER}/said", errors="replace").read().strip().split("\n")
-    said = lines[-1] if os.WIFEXITED(status) else f"ended by signal {os.WTERMSIG(status)}"
-    return used.ru_utime + used.ru_stime, used.ru_maxrss / 1024, said
-
-
 print(f"{'module':24}{'bytes':>10}{'cpu':>9}{'MiB':>8}  answer")
 for name, make in MODULES.items():
     if ASKED and name not in ASKED:
@@ -136,7 +115,7 @@ for name, make in MODULES.items():
     file = f"{FOLDER}/{name}.ll"
     if make is not None:
         written(file, make)
-    cpu, room, said = measured([os.environ["NATIVEOFF"], "local", file, "--steps", "0"])
+    _, cpu, room, said, _, _ = measured([os.environ["NATIVEOFF"], "local", file, "--steps", "0"], FOLDER, SECONDS)
     print(f"{name:24}{os.path.getsize(file):>10}{cpu:>9.2f}{room:>8.0f}  {said.removeprefix('nativeoff: ')}", flush=True)
     if "KEEP" not in os.environ:
         os.remove(file)
