@@ -14,6 +14,3 @@ pub use job::{JobEnd, local_job};
 pub use outcome::{ModuleFault, Outcome, status};
 pub use report::Report;
 pub use top::command;
-
-#[cfg(test)]
-mod tests;

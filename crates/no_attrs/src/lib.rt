@@ -11,6 +11,3 @@ pub use attribute::{
 };
 pub use marks::{Mark, attribute_marks};
 pub use words::{is_attribute_word, is_left_out, is_node, is_record};
-
-#[cfg(test)]
-mod tests;

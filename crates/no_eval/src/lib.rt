@@ -9,8 +9,6 @@ mod division;
 mod laws;
 mod number;
 mod shift;
-#[cfg(test)]
-mod tests;
 
 pub use arithmetic::binary;
 pub use comparison::compare;

@@ -6,6 +6,3 @@ mod region;
 mod splice;
 
 pub use flat::FlatMemory;
-
-#[cfg(test)]
-mod tests;

@@ -16,6 +16,3 @@ pub use numbers::{count_of, decimal, integer_at};
 pub use scope::Scope;
 pub use step::{fault_at, is_kind, is_sign, is_word, skip_sign, skip_word, spelled, syntax};
 pub use types::{TypeHead, a_type, at_most_one_type, same_type, types_are_exact, word_type};
-
-#[cfg(test)]
-mod tests;

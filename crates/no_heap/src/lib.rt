@@ -10,8 +10,6 @@ mod laws;
 mod leaving;
 mod merge;
 mod search;
-#[cfg(test)]
-mod tests;
 
 pub use block::{Block, Entry, HEAP_END, HEAP_START, HeapError, MOST_BLOCKS};
 pub use heap::Heap;

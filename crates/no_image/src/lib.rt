@@ -15,6 +15,3 @@ pub use ends::fits;
 pub use loading::load;
 pub use making::image;
 pub use placement::{addresses, regions};
-
-#[cfg(test)]
-mod tests;

@@ -24,6 +24,3 @@ pub use types::Ty;
 
 /// A list of bytes: a name, a text or the bytes of a constant.
 pub type Bytes = List<u8>;
-
-#[cfg(test)]
-mod tests;

@@ -29,8 +29,3 @@ pub use numbers::{Loaded, Stored, load, prepare_all, store};
 pub use order::{Big, Little, Order, get_number, orders_are_swapped, put_number};
 pub use sizes::{Sizes, SizesFault};
 pub use table::sizes_hold_for_all_types;
-
-#[cfg(test)]
-mod size_tests;
-#[cfg(test)]
-mod tests;

@@ -9,6 +9,3 @@ mod token;
 pub use fault::{LexError, LexFault, LexKind};
 pub use lexer::tokens;
 pub use token::{Token, TokenKind};
-
-#[cfg(test)]
-mod tests;

@@ -9,6 +9,3 @@ pub use locals::{
     Locals, a_block_label, a_definition, a_label, a_label_name, a_register, local_rules_are_exact,
     no_block_label, no_name,
 };
-
-#[cfg(test)]
-mod tests;

@@ -16,6 +16,3 @@ mod verdict;
 mod words;
 
 pub use verdict::assigned;
-
-#[cfg(test)]
-mod tests;

@@ -11,8 +11,6 @@ mod sink;
 mod source;
 mod spawner;
 mod sure;
-#[cfg(test)]
-mod tests;
 mod turns;
 mod wire;
 

@@ -15,6 +15,3 @@ mod types;
 mod words;
 
 pub use printing::print;
-
-#[cfg(test)]
-mod spellings;

@@ -9,6 +9,3 @@ mod typed;
 pub use fault::{ReadError, ReadFault, read_fault};
 pub use known::{Known, read_names};
 pub use reading::{at_most_one_module, read_module};
-
-#[cfg(test)]
-mod tests;

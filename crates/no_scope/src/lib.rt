@@ -6,6 +6,3 @@ mod symbols;
 
 pub use standing::{Bracket, Standing};
 pub use symbols::{Symbols, symbol_names};
-
-#[cfg(test)]
-mod tests;

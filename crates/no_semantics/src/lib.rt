@@ -14,6 +14,3 @@ pub use image::Image;
 pub use indices::{index_offset, part, place_address, resolved, symbol_address, with_first};
 pub use sound::Sound;
 pub use widths::{bytes_of, narrowed, pointer_width, width_at};
-
-#[cfg(test)]
-mod tests;

@@ -4,6 +4,3 @@
 mod tops;
 
 pub use tops::{a_declaration, a_group, a_node, a_source, a_target, top_forms_are_exact};
-
-#[cfg(test)]
-mod tests;

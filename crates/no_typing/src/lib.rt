@@ -26,6 +26,3 @@ pub use place::FaultPlace;
 pub use registers::result_of;
 pub use scalar::Scalar;
 pub use unknown::external_fault;
-
-#[cfg(test)]
-mod tests;

@@ -4,8 +4,6 @@
 mod fault;
 mod judge;
 mod sound;
-#[cfg(test)]
-mod tests;
 mod unassigned;
 mod verdict;
 

@@ -1,4 +1,0 @@
-use Rattle.no_app.proofs.tests.memory.Given as goal
-
-abbrev pub ghosts-called : goal.ghosts-called
-ghosts-called g a = record { name = a.blank.name; parts = a.blank.parts }
