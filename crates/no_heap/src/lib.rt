@@ -6,9 +6,11 @@ mod block;
 mod comparison;
 mod gap;
 mod heap;
+mod index;
 mod laws;
 mod leaving;
 mod merge;
+mod run;
 mod search;
 
 pub use block::{Block, Entry, HEAP_END, HEAP_START, HeapError, MOST_BLOCKS};
