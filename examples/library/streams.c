@@ -1,0 +1,81 @@
+/* The functions of stdio.h on the standard streams. The input is read to its end by all reading functions in turn. */
+#include <stdio.h>
+#include <string.h>
+#include "check.h"
+
+static void reading(void) {
+    char line[40];
+    int most = 0;
+    for (int k = 0; !feof(stdin) && most < 30000; k++, most++) {
+        int c;
+        switch (k % 9) {
+        case 0:
+        case 5:
+            called(getchar());
+            break;
+        case 1:
+            called(fgetc(stdin));
+            break;
+        case 2:
+            called(getc(stdin));
+            break;
+        case 3: {
+            char *it = fgets(line, (int)(1 + draw(sizeof line)), stdin);
+            called(it != NULL);
+            if (it)
+                note_bytes(it, (unsigned)strlen(it));
+            break;
+        }
+        case 4: {
+            size_t size = 1 + draw(5), n = fread(line, size, draw(sizeof line / 5), stdin);
+            called((int64_t)n);
+            note_bytes(line, (unsigned)(n * size));
+            break;
+        }
+        default:
+            c = getchar();
+            called(c);
+            called(ungetc(c, stdin));
+            called(getc(stdin));
+            if (c != EOF)
+                called(ungetc(draw(2) ? c : 'X', stdin));
+        }
+        note(feof(stdin) != 0);
+        note(ferror(stdin) != 0);
+    }
+    called(getchar());
+    called(fgets(line, sizeof line, stdin) != NULL);
+    called((int64_t)fread(line, 1, 5, stdin));
+    clearerr(stdin);
+    called(feof(stdin) != 0);
+    called(ungetc('q', stdin));
+    called(getchar());
+    called(getchar());
+    report("reading");
+}
+
+static void writing(void) {
+    for (int k = 0; k < 1050; k++) {
+        int c = 'a' + k % 26;
+        called(putchar(c));
+        called(fputc(c - 32, stdout));
+        called(putc(k % 50 ? '.' : '\n', stdout));
+        called(fputs(k % 3 ? "" : "<text>", stdout) >= 0);
+        called((int64_t)fwrite("abcdefgh", 1 + (size_t)k % 2, (size_t)k % 4, stdout));
+        called(fputs("unseen", stderr) >= 0);
+        called(fputc('\n', stderr));
+        called(fflush(stdout));
+        if (k % 100 == 0)
+            called(puts("") >= 0);
+        if (k % 150 == 0)
+            called(puts("a whole line") >= 0);
+    }
+    puts("");
+    report("writing");
+}
+
+int main(void) {
+    reading();
+    writing();
+    return 0;
+}

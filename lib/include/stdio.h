@@ -1,0 +1,63 @@
+/* The three standard streams. Input and output are the run's; what goes to stderr is written nowhere, since the run has one
+   output. printf and its kin stand in calls with a literal format alone, which from-c parts into calls of the functions at
+   the end. */
+#ifndef LIB_STDIO_H
+#define LIB_STDIO_H
+
+#include <stddef.h>
+#include <stdarg.h>
+
+typedef struct __stream FILE;
+struct __stream {
+    /* Where bytes go or come from: 0 the input, 1 the output, 2 nowhere, 3 the memory from `at`. */
+    unsigned char kind;
+    /* Whether the end was met. */
+    unsigned char ended;
+    /* How many bytes were pushed back, which is at most one. */
+    unsigned char waiting;
+    unsigned char pushed;
+    char *at;
+    /* The room that is left in memory, the 0 at the end aside. */
+    size_t left;
+};
+extern FILE __streams[3];
+
+#define stdin (&__streams[0])
+#define stdout (&__streams[1])
+#define stderr (&__streams[2])
+#define EOF (-1)
+#define BUFSIZ 1024
+#define _IOFBF 0
+#define _IOLBF 1
+#define _IONBF 2
+
+int getchar(void);
+int putchar(int c);
+int puts(const char *text);
+
+void clearerr(FILE *stream);
+int feof(FILE *stream);
+int ferror(FILE *stream);
+int fflush(FILE *stream);
+int fgetc(FILE *stream);
+char *fgets(char *__restrict to, int n, FILE *__restrict stream);
+int fputc(int c, FILE *stream);
+int fputs(const char *__restrict text, FILE *__restrict stream);
+size_t fread(void *__restrict to, size_t size, size_t count, FILE *__restrict stream);
+size_t fwrite(const void *__restrict from, size_t size, size_t count, FILE *__restrict stream);
+int getc(FILE *stream);
+void perror(const char *text);
+int putc(int c, FILE *stream);
+void setbuf(FILE *__restrict stream, char *__restrict room);
+int setvbuf(FILE *__restrict stream, char *__restrict room, int mode, size_t n);
+int ungetc(int c, FILE *stream);
+
+/* So that a byte that was pushed back is met by getchar too. */
+#define getchar() fgetc(stdin)
+
+int printf(const char *__restrict format, ...) __attribute__((format(printf, 1, 2)));
+int fprintf(FILE *__restrict stream, const char *__restrict format, ...) __attribute__((format(printf, 2, 3)));
+int sprintf(char *__restrict to, const char *__restrict format, ...) __attribute__((format(printf, 2, 3)));
+int snprintf(char *__restrict to, size_t n, const char *__restrict format, ...) __attribute__((format(printf, 3, 4)));
+
+#endif
