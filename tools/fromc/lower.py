@@ -13,11 +13,10 @@ BITS = {"umin": "and", "smax": "and", "umax": "or", "smin": "or"}
 
 
 class Lowering:
-    """The texts of one module. `own` are the functions that it defines."""
+    """One module. `size` is the type of size_t; `used` are the functions that the lowered lines call."""
 
     def __init__(self, lines, size):
-        self.lines, self.size, self.used = named(lines), size, set()
-        self.own = {it[1] for it in (re.match(r"define .*?@([-\w$.]+)\(", line) for line in self.lines) if it}
+        self.lines, self.size, self.used, self.count = named(lines), size, set(), 0
 
     def done(self):
         out, last = [], 0
@@ -93,7 +92,7 @@ class Lowering:
 
     def copying(self, call):
         """Calls of memcpy, memmove and memset by name are instructions of the machine."""
-        if call.name not in ("memcpy", "memmove", "memset") or not call.kind.replace("noundef", "").replace("nonnull", "").endswith(("ptr", "ptr ")):
+        if call.name not in ("memcpy", "memmove", "memset") or not call.kind.endswith("ptr"):
             return None
         values = call.values()
         if len(values) != 3 or values[2][0] != self.size:
@@ -115,7 +114,7 @@ class Lowering:
         return made + ([f"{call.result} = getelementptr i8, ptr {to}, i32 0"] if call.result else [])
 
     def fresh(self, word):
-        self.count = getattr(self, "count", 0) + 1
+        self.count += 1
         return f"%{word}.lowered.{self.count}"
 
     def intrinsic(self, at, call, line):
@@ -131,7 +130,7 @@ class Lowering:
             return [f"{call.result} = {self.called(word.replace('.', '_'), kind, [v for _, v in values[: SAME[word]]])}"]
         if word in BITS and kind == "i1":
             return [f"{call.result} = {BITS[word]} i1 {values[0][1]}, {values[1][1]}"]
-        if word in ("bswap", "bitreverse") and kind in ("i8", "i1") and word == "bswap":
+        if word == "bswap" and kind == "i8":
             return [f"{call.result} = freeze {kind} {values[0][1]}"]
         return self.other(at, call, values)
 
