@@ -1,0 +1,10 @@
+pub mod Lists
+pub mod Seeing
+pub mod Numbering
+pub mod Cells
+pub mod Whole
+pub mod Again
+pub mod Growing
+pub mod Streaming
+pub mod Faults
+pub mod Unique
