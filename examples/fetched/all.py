@@ -1,5 +1,5 @@
 #!/usr/bin/env python3
-"""all.py [--keep FOLDER] [NAME..]
+"""all.py [--keep FOLDER] [--targets T,..] [--levels L,..] [NAME..]
 
 Fetches the sources of well-known C libraries from Debian's archive, builds each with the driver beside this file for all targets
 at three levels, and says which modules are in the text profile. A package or a command that is missing is named, and the rest goes
@@ -72,15 +72,15 @@ def native(words, to):
     return ran.stdout, ran.returncode
 
 
-def tried(name, folder, room):
+def tried(name, folder, room, targets, levels):
     """How many modules are in the profile, and lines about the others."""
     sources = sources_of(name, folder)
     words = ["-I" + HERE + "/headers", *PACKAGES[name][1].replace("FOLDER", folder).split()]
     clang = os.environ.get("CLANG") or next(it for it in ("clang-19", "clang-16", "clang") if shutil.which(it))
     wanted = native([clang, "-w", "-O1", *words, *sources], f"{room}/native")
     inside, said = 0, []
-    for target in TARGETS:
-        for level in LEVELS:
+    for target in targets:
+        for level in levels:
             out = f"{room}/{name}.{target}{level}.ll"
             made = subprocess.run([FROM_C, *sources, target, out, "--", *words], stdin=subprocess.DEVNULL, stdout=subprocess.DEVNULL, stderr=subprocess.PIPE, text=True, env={**os.environ, "LEVELS": level})
             if made.returncode:
@@ -96,10 +96,17 @@ def tried(name, folder, room):
 
 def main():
     words = sys.argv[1:]
-    keep = None
-    if words[:1] == ["--keep"]:
-        keep, words = os.path.abspath(words[1]), words[2:]
-        os.makedirs(keep, exist_ok=True)
+    keep, targets, levels = None, TARGETS, LEVELS
+    while words and words[0].startswith("--"):
+        if words[0] == "--keep":
+            keep = os.path.abspath(words[1])
+            os.makedirs(keep, exist_ok=True)
+        elif words[0] == "--targets":
+            targets = words[1].split(",")
+        else:
+            levels = words[1].split(",")
+        words = words[2:]
+    each = len(targets) * len(levels)
     for needed in ("apt-get", "tar"):
         if not shutil.which(needed):
             print(f"fetched: skipped, since {needed} is missing")
@@ -115,11 +122,11 @@ def main():
             if not at:
                 print(f"{name}: the package is not to be had", flush=True)
                 continue
-            inside, said = tried(name, at, room)
-            print(f"{name}: {inside} of 12 modules are in the profile" + (f" (set aside: {ASIDE[name]})" if name in ASIDE else ""), *said, sep="\n", flush=True)
+            inside, said = tried(name, at, room, targets, levels)
+            print(f"{name}: {inside} of {each} modules are in the profile" + (f" (set aside: {ASIDE[name]})" if name in ASIDE else ""), *said, sep="\n", flush=True)
             bad += sum("DIFFERS" in it for it in said)
             if name not in ASIDE:
-                all_inside, all_tried = all_inside + inside, all_tried + 12
+                all_inside, all_tried = all_inside + inside, all_tried + each
     finally:
         shutil.rmtree(room)
         if not keep:

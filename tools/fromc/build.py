@@ -11,7 +11,7 @@ PLAIN = "-fno-vectorize -fno-slp-vectorize -fno-jump-tables -fno-builtin -fno-st
 # What a source asks for, to choose between plain C and what the profile leaves out.
 WITHOUT = [f"-U{it}" for it in ("__SIZEOF_INT128__", "__SSE__", "__SSE2__", "__MMX__", "__ARM_NEON", "__ARM_NEON__", "__ARM_FEATURE_SIMD32", "__STDC_HOSTED__")]
 ALWAYS = ["-fno-pic", "-fno-pie", "-w"]
-ASKED = ["-gline-tables-only", "-ffine-grained-bitfield-accesses", *WITHOUT]
+ASKED = ["-gline-tables-only", *WITHOUT]
 PASSES = "function(sroa,early-cse,simplifycfg,gvn,simplifycfg),globalopt"
 TIDIED = "globaldce,strip-dead-prototypes"
 KEEP = ["-internalize-public-api-list=main"]

@@ -1,6 +1,7 @@
 """Intrinsics, and other forms that the profile leaves out, become plain ones and calls of lib/runtime."""
 import re
 
+import aggregates
 from constants import hoisted
 from text import ATTACHED, Call, functions, named, on_circle, operand
 
@@ -16,7 +17,7 @@ class Lowering:
     """One module. `size` is the type of size_t; `used` are the functions that the lowered lines call."""
 
     def __init__(self, lines, size):
-        self.lines, self.size, self.used, self.count = named(lines), size, set(), 0
+        self.lines, self.size, self.used, self.count = lines, size, set(), 0
 
     def done(self):
         out, last = [], 0
@@ -83,7 +84,7 @@ class Lowering:
         attached = ATTACHED.search(line)[1]
         if not it[2]:
             return []
-        inputs = re.sub(r",?~\{\w+\}", "", it[4])
+        inputs = re.sub(r",?~\{[^}]*\}", "", it[4])
         found = re.fullmatch(r"=&?[rgq](m)?,0", inputs)
         if not found:
             return [line]
@@ -196,4 +197,4 @@ def sized(lines, size):
 
 
 def lowered(lines, size):
-    return Lowering(lines, size).done()
+    return Lowering(aggregates.scalar(named(lines), size), size).done()

@@ -125,12 +125,12 @@ def body_named(body):
     if not re.search(r"%\d", text) and not re.search(r"^\d+:", text, re.M):
         return body
     marks = '"[^"]*"'
-    text = re.sub(rf"{marks}|%(\d+)\b", lambda it: f"%v{it[1]}" if it[1] else it[0], text)
-    text = re.sub(r"^(\d+):", r"v\1:", text, flags=re.M)
+    text = re.sub(rf"{marks}|%(\d+)\b", lambda it: f"%unnamed.{it[1]}" if it[1] else it[0], text)
+    text = re.sub(r"^(\d+):", r"unnamed.\1:", text, flags=re.M)
     lines = text.split("\n")
     if not LABEL.match(lines[1]):
-        count = len(re.findall(r"%v\d+\b", lines[0]))
-        lines.insert(1, f"v{count}:")
+        count = len(re.findall(r"%unnamed\.\d+", lines[0]))
+        lines.insert(1, f"unnamed.{count}:")
     return lines
 
 
