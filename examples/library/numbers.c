@@ -107,7 +107,7 @@ static int64_t narrow_unsigned(void) {
     unsigned long n = strtoul(text, &end, by);
     int fault = errno;
     errno = 0;
-    unsigned long long m = strtoull(text, &same, by), size = strchr(text, '-') ? -m : m;
+    unsigned long long m = strtoull(text, &same, by), size = memchr(text, '-', (size_t)(same - text)) ? -m : m;
     int wide = errno;
     if (wide == 0 && size > ULONG_MAX)
         m = ULONG_MAX, wide = ERANGE;
@@ -162,7 +162,7 @@ int main(void) {
     READER("strtoumax", strtoumax(text, &end, by))
     EACH("strtol", narrow())
     EACH("strtoul", narrow_unsigned())
-    EACH("atoi", strlen(text) < 12 ? atoi(text) : 0)
+    EACH("atoi", strlen(text) < 10 ? atoi(text) : 0)
     EACH("atol", strlen(text) < 10 ? atol(text) : 0)
     EACH("atoll", atoll(text))
     EACH("abs", abs((int)any() == INT_MIN ? 1 : (int)draw(1u << 31) - (1 << 30)))
