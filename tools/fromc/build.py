@@ -1,7 +1,7 @@
 """The commands of LLVM that make a module of C files."""
 import hashlib, os, re, shutil, subprocess
 
-import formats, lower
+import constants, formats, lower
 from judge import EXTERNALS
 from text import NAME
 
@@ -165,7 +165,9 @@ class Build:
         passes = f"internalize,always-inline,{TIDIED}"
         if optimised:
             passes += ",function(early-cse,simplifycfg)"
-        return self.opt(passes, text, *KEEP)
+        text = self.opt(passes, text, *KEEP)
+        write(text, constants.spread(read(text)))
+        return text
 
     def at_level(self, level, plain):
         """The module at a level of clang, with its debug lines."""

@@ -2,7 +2,6 @@
 import re
 
 import aggregates
-from constants import hoisted
 from text import ATTACHED, Call, functions, named, on_circle, operand
 
 WIDE = ("i8", "i16", "i32", "i64")
@@ -41,7 +40,7 @@ class Lowering:
             if uses != len(re.findall(rf"extractvalue \{{ i\d+, i1 \}} {re.escape(it)},", text)):
                 del self.pairs[it]
         self.circle = on_circle(body) if "llvm.stackrestore" in text else set()
-        return [made for at, line in enumerate(body) for plain in hoisted(line, self.fresh) for made in self.line(at, plain)]
+        return [made for at, line in enumerate(body) for made in self.line(at, line)]
 
     def line(self, at, line):
         if "extractvalue" in line:
