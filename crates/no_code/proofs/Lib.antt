@@ -1,0 +1,10 @@
+pub mod Grown
+pub mod Kept
+pub mod Lists
+pub mod Passed
+pub mod Joins
+pub mod Branches
+pub mod Tables
+pub mod Made
+pub mod Whole
+pub mod Steps
