@@ -1,6 +1,6 @@
 ghost use Rattle.std.specs.Prelude.{◌≤◌, vec_len, IfOk};
 
-use no_ports::{FileAnswer, Files};
+use no_ports::{FileAnswer, Files, Tally};
 use std::fs::{self, File};
 use std::io::{self, Read};
 
@@ -8,7 +8,7 @@ use std::io::{self, Read};
 #[derive(Drop)]
 pub struct HostFiles<'a> {
     rt: &'a HostRuntime,
-    faults: u64,
+    faults: Tally,
 }
 
 /// Adds a file's first bytes to a buffer that holds fewer than the limit, up to the limit.
@@ -30,7 +30,8 @@ fn read_up_to(file: &mut File, limit: usize, into: &mut Vec<u8>) -> io::Result<(
 
 impl<'a> HostFiles<'a> {
     pub fn new(rt: &'a HostRuntime) -> HostFiles<'a> {
-        HostFiles { rt, faults: 0 }
+        let faults = Tally::new(rt.alloc());
+        HostFiles { rt, faults }
     }
 }
 
@@ -45,10 +46,11 @@ fn read_file(rt: &HostRuntime, name: &str, limit: usize, into: &mut Vec<u8>) -> 
 
 impl Files for HostFiles<'_> {
     ghost use Rattle.std.specs.Prelude.{None};
+    ghost use Rattle.no_ports.specs.Tally.{count_of};
 
     ghost contents = { λ _ _. None };
 
-    ghost faults = { λ f. f.faults };
+    ghost faults = { λ f name. count_of f.faults name };
 
     fn read(&mut self, name: &str, limit: u32, into: &mut Vec<u8>) -> FileAnswer {
         into.clear();
@@ -56,15 +58,13 @@ impl Files for HostFiles<'_> {
             return FileAnswer::Done;
         }
         into.clear();
-        self.faults = self.faults.saturating_add(1);
-        FileAnswer::Failed
+        self.faults.fail(name)
     }
 
     fn write(&mut self, name: &str, bytes: &[u8]) -> FileAnswer {
         if fs::write(self.rt, name, bytes).is_ok() {
             return FileAnswer::Done;
         }
-        self.faults = self.faults.saturating_add(1);
-        FileAnswer::Failed
+        self.faults.fail(name)
     }
 }

@@ -11,9 +11,10 @@ use Rattle.no_semantics.specs.Accepted.{Accepted}
 use Rattle.no_semantics.specs.Run.{Ran, run}
 use Rattle.no_app.specs.Programs.{Means}
 use Rattle.no_app.specs.Words.{Asked}
-use Rattle.no_app.specs.Jobs.{input_of}
 use Rattle.no_app.specs.declared.job.JobEnd.{JobEnd}
 use Rattle.no_app.specs.declared.job.JobEnd.TheVariants as job
+use Rattle.no_app.specs.declared.loading.Refused.{Refused}
+use Rattle.no_app.specs.declared.loading.Refused.TheVariants as refused
 use Rattle.no_app.specs.declared.outcome.Outcome.{Outcome}
 use Rattle.no_app.specs.declared.outcome.Outcome.TheVariants as outcome
 use Rattle.no_app.specs.declared.outcome.ModuleFault.{ModuleFault}
@@ -90,6 +91,11 @@ outcome_of_job (job.Ended e report) = outcome_of e
 outcome_of_job job.WriteFault = outcome.WriteFault
 outcome_of_job job.NoMemory = outcome.NoMemory
 
+-- the outcome of a text that gives no program
+abbrev pub outcome_refused : Refused → Outcome
+outcome_refused (refused.Bad fault) = outcome.BadModule fault
+outcome_refused refused.NoMemory = outcome.NoMemory
+
 -- ---- when each outcome comes
 
 -- before and after a call: what the output holds, what is counted, and the output's count of faults
@@ -102,19 +108,23 @@ pub record Flow : Type 0 where
   pub outs' : ℕ
 
 -- the outside world around a call: the job that the words ask for, what files hold, what the input has left,
--- the output and the counter, and the files' count of faults before and after
+-- the output and the counter, and each file's count of faults before and after
 pub record Around : Type 0 where
   pub job : Option Asked
   pub contents : List ℕ → Option (List ℕ)
   pub input : Option (List ℕ)
   pub flow : Flow
-  pub files : ℕ
-  pub files' : ℕ
+  pub faults : List ℕ → ℕ
+  pub faults' : List ℕ → ℕ
 
 -- a fact of the job, which there has to be
 abbrev pub OnJob : Option Asked → (Asked → Type 0) → Type 0
 OnJob None P = ⊥
 OnJob (Some asked) P = P asked
+
+-- a fact of some bytes, which are those that are told, where they are
+abbrev pub OnTold : Option (List ℕ) → (List ℕ → Type 0) → Type 0
+OnTold told P = (bytes : List ℕ) × IfSome told (λ t. bytes ≡ t) × P bytes
 
 -- a fact of the program that a text means, which it has to mean
 abbrev pub OnProgram : List ℕ → (Accepted → Type 0) → Type 0
@@ -126,9 +136,14 @@ pub record RanWhole (o : Outcome) (f : Flow) (ran : Ran) : Type 0 where
   pub wrote : Adds f.held f.held' ran.output
   pub counts : f.counted' ≡ record { source = f.counted.source + ran.count; part = f.counted.part }
 
--- the run of the job's file: where files tell what they hold, it is a program, and it ran so
+-- nothing was written and nothing counted
+pub record Idle (f : Flow) : Type 0 where
+  pub wrote : f.held' ≡ f.held
+  pub counts : f.counted' ≡ f.counted
+
+-- the job's file has a text, which means a program, and the input some bytes; the run of the one on the other ended so
 abbrev pub RunsTo : Outcome → Around → Type 0
-RunsTo o a = OnJob a.job (λ asked. IfSome (a.contents asked.file) (λ text. OnProgram text (λ p. RanWhole o a.flow (run p (input_of a.input) asked.steps))))
+RunsTo o a = OnJob a.job (λ asked. OnTold (a.contents asked.file) (λ text. OnTold a.input (λ given. OnProgram text (λ p. RanWhole o a.flow (run p given asked.steps)))))
 
 -- what each outcome says; the cases exclude each other, so each comes exactly where it says, want of memory aside
 abbrev pub Says : Outcome → Around → Type 0
@@ -137,14 +152,9 @@ Says (outcome.Trapped t) a = RunsTo (outcome.Trapped t) a
 Says outcome.Unfinished a = RunsTo outcome.Unfinished a
 Says outcome.NoMemory a = Unit {0}
 Says outcome.Usage a = a.job ≡ None
-Says (outcome.FileFault name) a = OnJob a.job (λ asked. (name ≡ asked.file) × Rose a.files a.files')
-Says (outcome.BadModule fault) a = OnJob a.job (λ asked. IfSome (a.contents asked.file) (λ text. Means text (Err fault)))
+Says (outcome.FileFault name) a = OnJob a.job (λ asked. (name ≡ asked.file) × Rose (a.faults asked.file) (a.faults' asked.file)) × Idle a.flow
+Says (outcome.BadModule fault) a = OnJob a.job (λ asked. OnTold (a.contents asked.file) (λ text. Means text (Err fault))) × Idle a.flow
 Says outcome.WriteFault a = OnJob a.job (λ asked. Rose a.flow.outs a.flow.outs')
-
--- nothing was written and nothing counted
-pub record Idle (f : Flow) : Type 0 where
-  pub wrote : f.held' ≡ f.held
-  pub counts : f.counted' ≡ f.counted
 
 -- a prefix of the run's output was written, and no more counted than the run counts
 pub record RanPart (f : Flow) (ran : Ran) : Type 0 where
@@ -164,7 +174,7 @@ WritesText f input steps text = (found : Result Accepted ModuleFault) → Means 
 -- whatever the outcome: without a job or a program nothing is written, and otherwise a prefix of the run's output
 abbrev pub WritesPart : Around → Option Asked → Type 0
 WritesPart a None = Idle a.flow
-WritesPart a (Some asked) = IfSome (a.contents asked.file) (λ text. WritesText a.flow (input_of a.input) asked.steps text)
+WritesPart a (Some asked) = OnTold (a.contents asked.file) (λ text. OnTold a.input (λ given. WritesText a.flow given asked.steps text))
 
 -- ---- the same for a text that was read
 
@@ -176,7 +186,7 @@ RunsText outcome.Unfinished f input steps text = OnProgram text (λ p. RanWhole 
 RunsText outcome.NoMemory f input steps text = Unit {0}
 RunsText outcome.Usage f input steps text = ⊥
 RunsText (outcome.FileFault name) f input steps text = ⊥
-RunsText (outcome.BadModule fault) f input steps text = Means text (Err fault)
+RunsText (outcome.BadModule fault) f input steps text = Means text (Err fault) × Idle f
 RunsText outcome.WriteFault f input steps text = Rose f.outs f.outs'
 
 -- the outcome with the stream of the last line beside it, of which these are the counts of faults
@@ -184,13 +194,17 @@ abbrev pub Concludes : Outcome → Around → ℕ → ℕ → Type 0
 Concludes outcome.WriteFault a errs errs' = Says outcome.WriteFault a ⊎ Rose errs errs'
 Concludes o a errs errs' = Says o a
 
--- the line that the stream got: the outcome's own, or after a fault or for want of memory a prefix of one
-abbrev pub Tells : Outcome → Option (List ℕ) → Option (List ℕ) → ℕ → ℕ → Type 0
-Tells outcome.WriteFault old new errs errs' =
-    AddsPrefix old new (line_of outcome.WriteFault) ⊎ ((tried : Outcome) × Rose errs errs' × AddsPrefix old new (line_of tried))
-Tells outcome.NoMemory old new errs errs' = (tried : Outcome) × AddsPrefix old new (line_of tried)
-Tells o old new errs errs' = Adds old new (line_of o)
+-- the line that the stream got: that of the outcome, whole; or, where the stream failed or memory was wanted, a prefix of the line
+-- of an outcome that the call had reached
+abbrev pub Tells : Outcome → Around → Option (List ℕ) → Option (List ℕ) → ℕ → ℕ → Type 0
+Tells outcome.WriteFault a old new errs errs' =
+    Adds old new (line_of outcome.WriteFault) ⊎ ((reached : Outcome) × Says reached a × Rose errs errs' × AddsPrefix old new (line_of reached))
+Tells outcome.NoMemory a old new errs errs' = (reached : Outcome) × Says reached a × AddsPrefix old new (line_of reached)
+Tells o a old new errs errs' = Adds old new (line_of o)
 
--- an outcome after its line was tried: the same, a fault of the stream, or want of memory
-abbrev pub Becomes : Outcome → Outcome → ℕ → ℕ → Type 0
-Becomes o o' errs errs' = (o' ≡ o) ⊎ ((o' ≡ outcome.WriteFault) × Rose errs errs') ⊎ (o' ≡ outcome.NoMemory)
+-- an outcome whose line was tried, and what became of it: the same with its whole line, a fault of the stream, or want of memory
+abbrev pub Becomes : Outcome → Outcome → Option (List ℕ) → Option (List ℕ) → ℕ → ℕ → Type 0
+Becomes o o' old new errs errs' =
+    ((o' ≡ o) × Adds old new (line_of o))
+    ⊎ ((o' ≡ outcome.WriteFault) × Rose errs errs' × AddsPrefix old new (line_of o))
+    ⊎ ((o' ≡ outcome.NoMemory) × AddsPrefix old new (line_of o))

@@ -1,6 +1,5 @@
 ghost use Rattle.std.specs.Prelude.{◌≡◌, ℕ, ◌≤◌, ◌++◌, ◌⊎◌, OnOk, IfOk, decimal};
-ghost use Rattle.no_ports.specs.Meanings.{Rose};
-ghost use Rattle.no_app.specs.Outcomes.{line_of, words_of, module_words, place_of, place_words, layout_number, verify_words, Tells, Becomes};
+ghost use Rattle.no_app.specs.Outcomes.{line_of, words_of, module_words, place_of, place_words, layout_number, verify_words, Becomes};
 
 use crate::outcome::{ModuleFault, Outcome};
 use no_ir::{NoMemory, Trap};
@@ -151,30 +150,19 @@ fn after_failure(outcome: Outcome) -> Outcome
     }
 }
 
-/// What becomes of an outcome whose line found no memory: want of memory, but for a write fault.
-fn after_want(outcome: Outcome) -> Outcome
-    ensures { (result ≡ Outcome.NoMemory) ⊎ ((outcome ≡ Outcome.WriteFault) × (result ≡ Outcome.WriteFault)) }
-{
-    match outcome {
-        Outcome::WriteFault => Outcome::WriteFault,
-        _ => Outcome::NoMemory,
-    }
-}
-
 /// Gives the last line of an outcome to a stream, and answers the outcome that comes of it.
 ///
-/// A failure of the stream makes it a write fault, and want of memory makes it want of memory; but a write fault
-/// and want of memory stay what they are.
+/// A failure of the stream makes it a write fault, but for want of memory, which stays what it is. Want of memory for the line
+/// makes it want of memory, also a write fault: so a write fault has given its whole line, or the stream failed.
 pub(crate) fn tell<E: Sink>(alloc: Global, outcome: Outcome, err: &mut E) -> Outcome
-    ensures becomes { Becomes outcome result (E.faults err.old) (E.faults err.new) }
-    ensures told { Tells result (E.held err.old) (E.held err.new) (E.faults err.old) (E.faults err.new) }
+    ensures { Becomes outcome result (E.held err.old) (E.held err.new) (E.faults err.old) (E.faults err.new) }
 {
     let Ok(text) = line(alloc, &outcome) else {
-        return after_want(outcome);
+        return Outcome::NoMemory;
     };
     match give_all(err, &text) {
         GaveAll::Done => outcome,
         GaveAll::Failed => after_failure(outcome),
-        GaveAll::NoMemory => after_want(outcome),
+        GaveAll::NoMemory => Outcome::NoMemory,
     }
 }

@@ -1,7 +1,6 @@
 ghost use Rattle.std.specs.Prelude.{◌≡◌, ◌≤◌, ◌^◌, ◌⊎◌, ℕ, List, None, Some};
-ghost use Rattle.no_app.specs.Jobs.{input_of};
 ghost use Rattle.no_app.specs.Words.{asked_of};
-ghost use Rattle.no_app.specs.Outcomes.{Says, WritesPart, Concludes, Tells, RunsText, WritesText, outcome_of_job};
+ghost use Rattle.no_app.specs.Outcomes.{Says, WritesPart, Concludes, Tells, RunsText, WritesText, OnTold, outcome_of_job, outcome_refused};
 
 use crate::job::{JobEnd, local_job};
 use crate::loading::{Refused, TEXT_LIMIT, load};
@@ -38,8 +37,17 @@ fn job_outcome(end: JobEnd) -> Outcome
     }
 }
 
+/// The outcome of a text that gives no program.
+fn refused_outcome(refusal: Refused) -> Outcome
+    ensures { result ≡ outcome_refused refusal }
+{
+    match refusal {
+        Refused::Bad(fault) => Outcome::BadModule(fault),
+        Refused::NoMemory => Outcome::NoMemory,
+    }
+}
+
 /// Reads a program's text and runs it on the device alone.
-#[tactic(auto, using(crate::proofs::Outcomes::idle_part))]
 fn run_text<I: Source, O: Sink, L: Ledger>(
     alloc: Global,
     text: &[u8],
@@ -49,14 +57,13 @@ fn run_text<I: Source, O: Sink, L: Ledger>(
     steps: &mut Steps<L>,
 ) -> Outcome
     requires { budget ≤ 2 ^ 32 }
-    ensures says { RunsText result (record { held = O.held out.old; held' = O.held out.new; counted = steps.old; counted' = steps.new; outs = O.faults out.old; outs' = O.faults out.new }) (input_of (I.left input.old)) budget text.now }
-    ensures part { WritesText (record { held = O.held out.old; held' = O.held out.new; counted = steps.old; counted' = steps.new; outs = O.faults out.old; outs' = O.faults out.new }) (input_of (I.left input.old)) budget text.now }
+    ensures says { OnTold (I.left input.old) (λ given. RunsText result (record { held = O.held out.old; held' = O.held out.new; counted = steps.old; counted' = steps.new; outs = O.faults out.old; outs' = O.faults out.new }) given budget text.now) }
+    ensures part { OnTold (I.left input.old) (λ given. WritesText (record { held = O.held out.old; held' = O.held out.new; counted = steps.old; counted' = steps.new; outs = O.faults out.old; outs' = O.faults out.new }) given budget text.now) }
     ensures untouched { input.new ≡ input.old }
 {
     match load(alloc, text) {
         Ok(sound) => job_outcome(local_job(alloc, sound, budget, input, out, steps)),
-        Err(Refused::Bad(fault)) => Outcome::BadModule(fault),
-        Err(Refused::NoMemory) => Outcome::NoMemory,
+        Err(refusal) => refused_outcome(refusal),
     }
 }
 
@@ -69,8 +76,8 @@ fn perform<F: Files, I: Source, O: Sink, L: Ledger>(
     out: &mut O,
     steps: &mut Steps<L>,
 ) -> Outcome
-    ensures says { Says result (record { job = asked_of words.now; contents = F.contents files.old; input = I.left input.old; flow = record { held = O.held out.old; held' = O.held out.new; counted = steps.old; counted' = steps.new; outs = O.faults out.old; outs' = O.faults out.new }; files = F.faults files.old; files' = F.faults files.new }) }
-    ensures part { WritesPart (record { job = asked_of words.now; contents = F.contents files.old; input = I.left input.old; flow = record { held = O.held out.old; held' = O.held out.new; counted = steps.old; counted' = steps.new; outs = O.faults out.old; outs' = O.faults out.new }; files = F.faults files.old; files' = F.faults files.new }) (asked_of words.now) }
+    ensures says { Says result (record { job = asked_of words.now; contents = F.contents files.old; input = I.left input.old; flow = record { held = O.held out.old; held' = O.held out.new; counted = steps.old; counted' = steps.new; outs = O.faults out.old; outs' = O.faults out.new }; faults = F.faults files.old; faults' = F.faults files.new }) }
+    ensures part { WritesPart (record { job = asked_of words.now; contents = F.contents files.old; input = I.left input.old; flow = record { held = O.held out.old; held' = O.held out.new; counted = steps.old; counted' = steps.new; outs = O.faults out.old; outs' = O.faults out.new }; faults = F.faults files.old; faults' = F.faults files.new }) (asked_of words.now) }
     ensures files { (name : List ℕ) → F.contents files.new name ≡ F.contents files.old name }
     ensures untouched { input.new ≡ input.old }
 {
@@ -100,11 +107,11 @@ pub fn command<F: Files, I: Source, O: Sink, E: Sink, W: Wire, S: Spawner, L: Le
     steps: &mut Steps<L>,
 ) -> Outcome
     // The headline, and when each outcome comes.
-    ensures says { Concludes result (record { job = asked_of words.now; contents = F.contents files.old; input = I.left input.old; flow = record { held = O.held out.old; held' = O.held out.new; counted = steps.old; counted' = steps.new; outs = O.faults out.old; outs' = O.faults out.new }; files = F.faults files.old; files' = F.faults files.new }) (E.faults err.old) (E.faults err.new) }
+    ensures says { Concludes result (record { job = asked_of words.now; contents = F.contents files.old; input = I.left input.old; flow = record { held = O.held out.old; held' = O.held out.new; counted = steps.old; counted' = steps.new; outs = O.faults out.old; outs' = O.faults out.new }; faults = F.faults files.old; faults' = F.faults files.new }) (E.faults err.old) (E.faults err.new) }
     // Whatever the outcome, no more than a prefix of the run's output is written, and no more counted than the run counts.
-    ensures part { WritesPart (record { job = asked_of words.now; contents = F.contents files.old; input = I.left input.old; flow = record { held = O.held out.old; held' = O.held out.new; counted = steps.old; counted' = steps.new; outs = O.faults out.old; outs' = O.faults out.new }; files = F.faults files.old; files' = F.faults files.new }) (asked_of words.now) }
+    ensures part { WritesPart (record { job = asked_of words.now; contents = F.contents files.old; input = I.left input.old; flow = record { held = O.held out.old; held' = O.held out.new; counted = steps.old; counted' = steps.new; outs = O.faults out.old; outs' = O.faults out.new }; faults = F.faults files.old; faults' = F.faults files.new }) (asked_of words.now) }
     // The line that `err` gets.
-    ensures told { Tells result (E.held err.old) (E.held err.new) (E.faults err.old) (E.faults err.new) }
+    ensures told { Tells result (record { job = asked_of words.now; contents = F.contents files.old; input = I.left input.old; flow = record { held = O.held out.old; held' = O.held out.new; counted = steps.old; counted' = steps.new; outs = O.faults out.old; outs' = O.faults out.new }; faults = F.faults files.old; faults' = F.faults files.new }) (E.held err.old) (E.held err.new) (E.faults err.old) (E.faults err.new) }
     // What stays the same.
     ensures files { (name : List ℕ) → F.contents files.new name ≡ F.contents files.old name }
     ensures input { input.new ≡ input.old }

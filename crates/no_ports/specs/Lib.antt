@@ -1,3 +1,4 @@
 pub mod Meanings
 pub mod Memory
+pub mod Tally
 pub mod Link

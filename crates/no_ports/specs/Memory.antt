@@ -84,11 +84,6 @@ pub record Entry : Type 0 where
   pub name : List ℕ
   pub bytes : List ℕ
 
--- the entries of files in memory, and their calls
-pub record Shelf : Type 0 where
-  pub files : List Entry
-  pub calls : Calls
-
 -- the names and bytes of a list of files
 abbrev pub entries : List (String Global × Vec ℕ Global) → List Entry
 entries [] = []
@@ -109,8 +104,8 @@ read_as (Some bytes) = bytes
 abbrev pub contents_of : List Entry → List ℕ → Option (List ℕ)
 contents_of files name = Some (read_as (file_of files name))
 
--- a call on files fails exactly where it is to fail
+-- a call on files fails exactly where it is to fail, want of memory aside
 abbrev pub Answers : FileAnswer → Bool → Type 0
 Answers answer.Done due = due ≡ false
 Answers answer.Failed due = due ≡ true
-Answers answer.NoMemory due = due ≡ false
+Answers answer.NoMemory due = Unit {0}

@@ -11,6 +11,7 @@ mod sink;
 mod source;
 mod spawner;
 mod sure;
+mod tally;
 mod turns;
 mod wire;
 
@@ -24,4 +25,5 @@ pub use sink::{Gave, Sink};
 pub use source::{Source, Took};
 pub use spawner::{Spawner, Started};
 pub use sure::{SureFiles, SureSink, SureSource};
+pub use tally::Tally;
 pub use wire::{Opened, Wire, WireGave, WireTook};

@@ -1,8 +1,10 @@
-ghost use Rattle.std.specs.Prelude.{◌≡◌, ◌≢◌, ℕ, ◌≤◌, List, Some, false, option_copied};
+ghost use Rattle.std.specs.Prelude.{◌≡◌, ◌≢◌, ℕ, ◌≤◌, List, [], Some, false, option_copied};
 ghost use Rattle.no_ports.specs.Meanings.{Rose, Reads, Writes};
+ghost use Rattle.no_ports.specs.Tally.{count_of, after_answer};
 ghost use Rattle.no_ports.specs.Memory.{no_calls, is_due, after_call, Answers, entries, file_of, contents_of};
 
 use crate::files::{FileAnswer, Files};
+use crate::tally::Tally;
 use crate::turns::Turns;
 use std::marker::Model;
 
@@ -11,24 +13,28 @@ use std::marker::Model;
 pub struct MemFiles {
     files: Vec<(String, Vec<u8>)>,
     turns: Turns,
+    faults: Tally,
 }
 
 impl Model for MemFiles {
-    ghost use Rattle.no_ports.specs.Memory.{Shelf, entries};
+    ghost use Rattle.no_ports.specs.Memory.{entries};
+    ghost use Rattle.no_ports.specs.Tally.{Shelf};
 
     ghost Value = { Shelf };
 
-    ghost view = { λ s. record { files = entries s.files.items; calls = s.turns } };
+    ghost view = { λ s. record { files = entries s.files.items; calls = s.turns; faults = s.faults } };
 }
 
 impl MemFiles {
     /// The files' names and bytes, and the numbers of the calls that are to fail, counted from 1.
     pub fn new(files: Vec<(String, Vec<u8>)>, failing: Vec<u32>) -> MemFiles
-        ensures { result ≡ record { files = entries files.items; calls = no_calls failing.items } }
+        ensures { result ≡ record { files = entries files.items; calls = no_calls failing.items; faults = [] } }
     {
+        let faults = Tally::new(*files.allocator());
         MemFiles {
             files,
             turns: Turns::new(failing),
+            faults,
         }
     }
 
@@ -43,21 +49,23 @@ impl MemFiles {
 impl Files for MemFiles {
     ghost contents = { λ s name. contents_of s.files name };
 
-    ghost faults = { λ s. s.calls.failed };
+    ghost faults = { λ s name. count_of s.faults name };
 
     fn read(&mut self, name: &str, limit: u32, into: &mut Vec<u8>) -> FileAnswer
         ensures read { Reads result limit into.new.items (contents_of self.old.files name.now) }
         ensures same { (q : List ℕ) →
             contents_of self.new.files q ≡ contents_of self.old.files q }
-        ensures later { self.old.calls.failed ≤ self.new.calls.failed }
-        ensures failed { result ≡ FileAnswer.Failed → Rose self.old.calls.failed self.new.calls.failed }
+        ensures later { count_of self.old.faults name.now ≤ count_of self.new.faults name.now }
+        ensures failed { result ≡ FileAnswer.Failed → Rose (count_of self.old.faults name.now) (count_of self.new.faults name.now) }
+        ensures alone { (q : List ℕ) → q ≢ name.now → count_of self.new.faults q ≡ count_of self.old.faults q }
         ensures answers { Answers result (is_due self.old.calls) }
         ensures kept { self.new.files ≡ self.old.files }
         ensures counted { self.new.calls ≡ after_call self.old.calls }
+        ensures tallied { self.new.faults ≡ after_answer result name.now self.old.faults }
     {
         if self.turns.next_fails() {
             into.clear();
-            return FileAnswer::Failed;
+            return self.faults.fail(name);
         }
         read_front(&self.files, name, limit, into)
     }
@@ -67,16 +75,18 @@ impl Files for MemFiles {
             (contents_of self.new.files name.now) }
         ensures others { (q : List ℕ) → q ≢ name.now →
             contents_of self.new.files q ≡ contents_of self.old.files q }
-        ensures later { self.old.calls.failed ≤ self.new.calls.failed }
-        ensures failed { result ≡ FileAnswer.Failed → Rose self.old.calls.failed self.new.calls.failed }
+        ensures later { count_of self.old.faults name.now ≤ count_of self.new.faults name.now }
+        ensures failed { result ≡ FileAnswer.Failed → Rose (count_of self.old.faults name.now) (count_of self.new.faults name.now) }
+        ensures alone { (q : List ℕ) → q ≢ name.now → count_of self.new.faults q ≡ count_of self.old.faults q }
         ensures answers { Answers result (is_due self.old.calls) }
         ensures stored { result ≡ FileAnswer.Done → file_of self.new.files name.now ≡ Some bytes.now }
         ensures kept { (q : List ℕ) → q ≢ name.now →
             file_of self.new.files q ≡ file_of self.old.files q }
         ensures counted { self.new.calls ≡ after_call self.old.calls }
+        ensures tallied { self.new.faults ≡ after_answer result name.now self.old.faults }
     {
         if self.turns.next_fails() {
-            return FileAnswer::Failed;
+            return self.faults.fail(name);
         }
         put(&mut self.files, name, bytes)
     }

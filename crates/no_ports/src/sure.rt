@@ -136,7 +136,7 @@ impl SureFiles {
 impl Files for SureFiles {
     ghost contents = { λ s name. contents_of s name };
 
-    ghost faults = { λ _. 0 };
+    ghost faults = { λ _ _. 0 };
 
     fn read(&mut self, name: &str, limit: u32, into: &mut Vec<u8>) -> FileAnswer
         ensures read { Reads result limit into.new.items (contents_of self.old name.now) }
