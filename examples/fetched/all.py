@@ -25,7 +25,7 @@ PACKAGES = {
     "liblzf": ("lzf_c.c lzf_d.c", "-IFOLDER"),
     "http-parser": ("http_parser.c", "-IFOLDER"),
     "libmd": ("src/md5.c src/sha1.c src/sha2.c src/rmd160.c", "-IFOLDER/include -IFOLDER/src"),
-    "brotli": ("c/common/*.c c/dec/*.c", "-IFOLDER/c/include"),
+    "brotli": ("c/common/*.c c/dec/*.c", "-IFOLDER/c/include -U__ARM_ARCH"),
     "libyaml": ("src/api.c src/reader.c src/scanner.c src/parser.c", '-IFOLDER/include -IFOLDER/src -DYAML_VERSION_MAJOR=0 -DYAML_VERSION_MINOR=2 -DYAML_VERSION_PATCH=5 -DYAML_VERSION_STRING="0.2.5"'),
     "expat": ("lib/xmlparse.c lib/xmltok.c lib/xmlrole.c", "-IFOLDER/lib -DHAVE_MEMMOVE -DXML_POOR_ENTROPY -DXML_GE=1 -DXML_DTD -DXML_NS -DXML_CONTEXT_BYTES=1024 -DBYTEORDER=1234"),
 }
