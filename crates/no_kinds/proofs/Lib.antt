@@ -1,4 +1,3 @@
-mod Ends
 mod Known
 mod Members
 mod Edges

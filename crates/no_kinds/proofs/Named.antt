@@ -8,7 +8,7 @@ use Rattle.no_layout.specs.declared.extent.Extent.{Extent}
 use Rattle.no_layout.specs.declared.layout.Layout.{Layout}
 use Rattle.no_typing.specs.declared.place.FaultPlace.{FaultPlace}
 use Rattle.no_typing.specs.Places.{fault_at}
-use Rattle.no_semantics.specs.Sound.{type_fits}
+use Rattle.no_room.specs.Fits.{type_fits}
 use Rattle.no_kinds.specs.Finding.{first_break, unless_whole}
 use Rattle.no_kinds.specs.Large.{named_fit, large_of, large_with}
 

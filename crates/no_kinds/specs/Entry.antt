@@ -8,7 +8,7 @@ use Rattle.no_ir.specs.declared.function.Module.{Module}
 use Rattle.no_ir.specs.declared.function.Role.{Role}
 use Rattle.no_ir.specs.declared.function.Role.TheVariants.{Source, Part}
 use Rattle.no_typing.specs.declared.place.FaultPlace.{FaultPlace}
-use Rattle.no_typing.specs.Addresses.{is_declared}
+use Rattle.no_module.specs.Functions.{is_declared}
 use Rattle.no_kinds.specs.Finding.{unless_whole}
 
 abbrev pub int_step : Ty-F Ty → Bool

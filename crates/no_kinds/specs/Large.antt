@@ -10,7 +10,7 @@ use Rattle.no_ir.specs.declared.function.Module.{Module}
 use Rattle.no_layout.specs.Sizes.{measure_of, sizes_of}
 use Rattle.no_layout.specs.declared.extent.Extent.{Extent}
 use Rattle.no_layout.specs.declared.layout.Layout.{Layout}
-use Rattle.no_semantics.specs.Sound.{type_fits}
+use Rattle.no_room.specs.Fits.{type_fits}
 use Rattle.no_typing.specs.declared.place.FaultPlace.{FaultPlace}
 use Rattle.no_kinds.specs.Finding.{first_break, first_instr, first_place, unless, unless_whole}
 use Rattle.no_kinds.specs.Parts.{constant_keeps, operands_keep, types_of}

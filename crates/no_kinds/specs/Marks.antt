@@ -18,7 +18,8 @@ use Rattle.no_ir.specs.declared.function.Module.{Module}
 use Rattle.no_ir.specs.declared.function.Role.{Role}
 use Rattle.no_ir.specs.declared.function.Role.TheVariants.{Source, Part}
 use Rattle.no_typing.specs.declared.place.FaultPlace.{FaultPlace}
-use Rattle.no_typing.specs.Addresses.{is_declared, is_intrinsic}
+use Rattle.no_module.specs.Functions.{is_declared}
+use Rattle.no_typing.specs.Addresses.{is_intrinsic}
 use Rattle.no_typing.specs.Typing.{direct}
 use Rattle.no_kinds.specs.Finding.{first_instr, first_at, first_place, unless, unless_whole}
 use Rattle.no_kinds.specs.Names.{is_in}

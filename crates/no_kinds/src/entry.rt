@@ -4,7 +4,8 @@ ghost use Rattle.no_kinds.specs.Entry.{entry_of, is_i32, is_main, is_ptr, main_p
 
 use crate::finding::whole;
 use no_ir::{Function, Module, Role, Ty};
-use no_typing::{FaultPlace, is_declared};
+use no_module::is_declared;
+use no_typing::FaultPlace;
 
 fn is_i32(t: &Ty) -> bool
     ensures { result ≡ is_i32 t.now }

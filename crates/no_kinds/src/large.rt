@@ -2,7 +2,7 @@ ghost use Rattle.std.specs.Prelude.{◌≡◌, IfOk, IsTrue, true};
 ghost use Rattle.std.specs.List.{list_all};
 ghost use Rattle.no_layout.specs.Sizes.{sizes_of};
 ghost use Rattle.no_layout.specs.Text.{is_formed};
-ghost use Rattle.no_semantics.specs.Sound.{type_fits};
+ghost use Rattle.no_room.specs.Fits.{type_fits};
 ghost use Rattle.no_kinds.specs.Finding.{first_place, unless};
 ghost use Rattle.no_kinds.specs.Large.{IsLargeAnswer, function_large, global_fits, head_fits, instr_fits, large_with};
 ghost use Rattle.no_kinds.specs.Parts.{argument_types, types_of};

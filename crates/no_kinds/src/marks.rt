@@ -6,7 +6,8 @@ use crate::finding::{InstrRule, fault_place, first_instr, whole};
 use crate::numbers::Numbers;
 use crate::parts::{NameRule, arguments_keep, operand_keeps, operands_keep};
 use no_ir::{BinOp, CastOp, Function, Instr, Module, NoMemory, Op, Place, Role, Symbol};
-use no_typing::{FaultPlace, direct, is_declared, is_intrinsic};
+use no_module::is_declared;
+use no_typing::{FaultPlace, direct, is_intrinsic};
 use std::alloc::Global;
 
 /// That no operand names a function.

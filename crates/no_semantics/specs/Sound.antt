@@ -20,10 +20,11 @@ use Rattle.no_ir.specs.declared.function.Block.{Block}
 use Rattle.no_ir.specs.declared.function.Function.{Function}
 use Rattle.no_ir.specs.declared.function.Module.{Module}
 use Rattle.no_eval.specs.Numbers.{modulo}
-use Rattle.no_layout.specs.Sizes.{measure_of, type_size, type_align}
+use Rattle.no_layout.specs.Sizes.{type_size, type_align}
 use Rattle.no_layout.specs.Text.{is_formed}
 use Rattle.no_layout.specs.declared.extent.Extent.{Extent}
 use Rattle.no_layout.specs.declared.layout.Layout.{Layout}
+pub use Rattle.no_room.specs.Fits.{type_fits}
 use Rattle.no_semantics.specs.Indices.{path_leads, resolved, told_of}
 use Rattle.no_semantics.specs.Values.{width_of}
 
@@ -40,10 +41,6 @@ is_scalar_step _ = false
 -- an integer type or ptr
 abbrev pub is_scalar : Ty → Bool
 is_scalar t = is_scalar_step (out-Ty t)
-
--- the type and each type inside it has at most 0x1000_0000 bytes
-abbrev pub type_fits : Layout → List Extent → Ty → Bool
-type_fits l sizes t = (measure_of l sizes t).fits
 
 -- the widths that a conversion goes between
 abbrev pub goes_between : CastOp → ℕ → ℕ → Bool

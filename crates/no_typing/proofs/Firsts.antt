@@ -6,7 +6,7 @@ use Rattle.no_ir.specs.declared.function.Function.{Function}
 use Rattle.no_ir.specs.declared.function.Module.{Module}
 use Rattle.no_ir.specs.declared.function.Role.{Role}
 use Rattle.no_ir.specs.declared.instruction.Instr.{Instr}
-use Rattle.no_typing.specs.declared.scalar.Scalar.{Scalar}
+use Rattle.no_module.specs.declared.scalar.Scalar.{Scalar}
 use Rattle.no_typing.specs.Places.{first_found, found_or, function_fault, typed, wrong_among}
 use Rattle.no_typing.specs.Registers.{register_types}
 use Rattle.no_typing.specs.Typing.{head_typed, op_typed}

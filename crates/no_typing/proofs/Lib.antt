@@ -1,5 +1,4 @@
 pub mod Gathered
-pub mod Meets
 pub mod Numbers
 pub mod Tables
 pub mod Differ

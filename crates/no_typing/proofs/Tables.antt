@@ -4,7 +4,7 @@ use Rattle.std.specs.List.{list_any, range_with_len}
 use Rattle.std.proofs.lemmas.Bool.{cases_eq, eq-eqb, ne_eqb}
 use Rattle.std.proofs.lemmas.List.{ext_get_or, get_or-replicate, get_or-set_same, get_or-set_other, length-set, length-replicate}
 use Rattle.std.proofs.lemmas.List.FromFn.{get_or-map-range_with_len, length-map-range_with_len}
-use Rattle.no_typing.specs.declared.scalar.Scalar.{Scalar}
+use Rattle.no_module.specs.declared.scalar.Scalar.{Scalar}
 use Rattle.no_typing.specs.Registers.{first_type}
 use Rattle.no_typing.specs.Tables.{overwritten, marked}
 

@@ -5,25 +5,14 @@ use Rattle.no_ir.specs.declared.types.Ty.TheOpen.{Ty-F}
 use Rattle.no_ir.specs.declared.constant.Place.{Place}
 use Rattle.no_ir.specs.declared.constant.Symbol.{Symbol}
 use Rattle.no_ir.specs.declared.constant.Symbol.TheVariants as symbol
-use Rattle.no_ir.specs.declared.function.Block.{Block}
 use Rattle.no_ir.specs.declared.function.Function.{Function}
 use Rattle.no_ir.specs.declared.function.Module.{Module}
 use Rattle.no_ir.specs.declared.function.Role.{Role}
 use Rattle.no_ir.specs.declared.function.Role.TheVariants.{Source, Part}
-use Rattle.no_typing.specs.Scalars.{resolved}
+use Rattle.no_module.specs.Functions.{begins_with, is_declared}
+use Rattle.no_module.specs.Named.{resolved}
 
 -- ---- intrinsics
-
-abbrev pub no_blocks : List Block → Bool
-no_blocks [] = true
-no_blocks _ = false
-
--- a function with no blocks is declared
-abbrev pub is_declared : Function → Bool
-is_declared f = no_blocks f.blocks
-
-abbrev pub begins_with : List ℕ → List ℕ → Bool
-begins_with stem name = bytes_eq (take (length stem) name) stem
 
 -- the two functions of a server's part that stand for what the device would do
 abbrev pub is_helper : Role → List ℕ → Bool

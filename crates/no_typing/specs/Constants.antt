@@ -9,9 +9,10 @@ use Rattle.no_ir.specs.declared.constant.Const.TheFolds.{fold-Const}
 use Rattle.no_ir.specs.declared.function.GlobalVar.{GlobalVar}
 use Rattle.no_ir.specs.declared.function.Module.{Module}
 use Rattle.no_ir.specs.declared.function.Role.{Role}
-use Rattle.no_typing.specs.declared.scalar.Scalar.{Scalar}
-use Rattle.no_typing.specs.declared.scalar.Scalar.TheVariants as scalar
-use Rattle.no_typing.specs.Scalars.{each_meets, is_of, is_pointer, scalar_of, is_void, resolved}
+use Rattle.no_module.specs.declared.scalar.Scalar.{Scalar}
+use Rattle.no_module.specs.declared.scalar.Scalar.TheVariants as scalar
+use Rattle.no_module.specs.Scalars.{each_meets, is_of, is_pointer, scalar_of, is_void}
+use Rattle.no_module.specs.Named.{resolved}
 use Rattle.no_typing.specs.Addresses.{place_fits}
 
 -- ---- constants of integer types and of ptr

@@ -1,9 +1,7 @@
 pub mod Addresses
 pub mod Constants
-pub mod Externals
 pub mod Named
 pub mod Places
 pub mod Registers
-pub mod Scalars
 pub mod Tables
 pub mod Typing

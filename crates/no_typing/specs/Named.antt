@@ -17,8 +17,8 @@ use Rattle.no_ir.specs.declared.function.Function.{Function}
 use Rattle.no_ir.specs.declared.function.GlobalVar.{GlobalVar}
 use Rattle.no_ir.specs.declared.function.Module.{Module}
 use Rattle.no_ir.specs.declared.function.Role.{Role}
-use Rattle.no_typing.specs.Addresses.{is_declared}
-use Rattle.no_typing.specs.Externals.{is_external}
+use Rattle.no_module.specs.Functions.{is_declared}
+use Rattle.no_module.specs.Externals.{is_external}
 
 abbrev pub symbol_names : Symbol → List ℕ
 symbol_names (symbol.Function k) = k ∷ []

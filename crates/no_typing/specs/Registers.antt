@@ -7,9 +7,9 @@ use Rattle.no_ir.specs.declared.instruction.Op.TheVariants as op
 use Rattle.no_ir.specs.declared.instruction.Instr.{Instr}
 use Rattle.no_ir.specs.declared.function.Block.{Block}
 use Rattle.no_ir.specs.declared.function.Function.{Function}
-use Rattle.no_typing.specs.declared.scalar.Scalar.{Scalar}
-use Rattle.no_typing.specs.declared.scalar.Scalar.TheVariants as scalar
-use Rattle.no_typing.specs.Scalars.{integer, scalar_of}
+use Rattle.no_module.specs.declared.scalar.Scalar.{Scalar}
+use Rattle.no_module.specs.declared.scalar.Scalar.TheVariants as scalar
+use Rattle.no_module.specs.Scalars.{integer, scalar_of}
 
 -- the type of an instruction's result
 abbrev pub result_of : Op → Option Scalar

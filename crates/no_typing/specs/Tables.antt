@@ -1,6 +1,6 @@
 -- Tables by number that are written entry by entry.
 use Rattle.std.specs.Prelude.{ℕ, Bool, true, List, [], ◌∷◌, set, Option}
-use Rattle.no_typing.specs.declared.scalar.Scalar.{Scalar}
+use Rattle.no_module.specs.declared.scalar.Scalar.{Scalar}
 
 -- types by number once these are written, so that of two for one number the first counts; a number past the end has no entry
 abbrev pub overwritten : List (Option Scalar) → List (ℕ × Option Scalar) → List (Option Scalar)

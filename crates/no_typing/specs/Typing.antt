@@ -16,14 +16,16 @@ use Rattle.no_ir.specs.declared.instruction.Op.TheVariants as op
 use Rattle.no_ir.specs.declared.function.Function.{Function}
 use Rattle.no_ir.specs.declared.function.Module.{Module}
 use Rattle.no_ir.specs.declared.function.Role.{Role}
-use Rattle.no_typing.specs.declared.scalar.Scalar.{Scalar}
-use Rattle.no_typing.specs.declared.scalar.Scalar.TheVariants as scalar
-use Rattle.no_typing.specs.declared.external.External.{External}
-use Rattle.no_typing.specs.declared.external.External.TheVariants as external
-use Rattle.no_typing.specs.Scalars.{each_meets, integer, scalar_of, is_scalar, is_pointer, agree, is_void, is_result, same_result}
-use Rattle.no_typing.specs.Addresses.{field_below, indices_lead, is_declared}
+use Rattle.no_module.specs.declared.scalar.Scalar.{Scalar}
+use Rattle.no_module.specs.declared.scalar.Scalar.TheVariants as scalar
+use Rattle.no_module.specs.declared.external.External.{External}
+use Rattle.no_module.specs.declared.external.External.TheVariants as external
+use Rattle.no_module.specs.Scalars.{each_meets, integer, scalar_of, is_scalar, is_pointer, agree, is_void, is_result, same_result}
+use Rattle.no_typing.specs.Addresses.{field_below, indices_lead}
 use Rattle.no_typing.specs.Constants.{value_fits}
-use Rattle.no_typing.specs.Externals.{external_named}
+use Rattle.no_module.specs.Externals.{declared_external}
+use Rattle.no_module.specs.Functions.{is_declared}
+use Rattle.no_module.specs.Widths.{is_alignment}
 use Rattle.no_typing.specs.Registers.{type_at}
 
 -- ---- operands
@@ -107,24 +109,20 @@ abbrev pub is_stated : Option (Ty × Operand) → Bool
 is_stated None = false
 is_stated (Some arg) = is_number arg.1
 
--- a power of two up to 65,536
-abbrev pub is_alignment : Option ℕ → Bool
-is_alignment None = false
-is_alignment (Some n) = is_power_of_two n && nat_le n 65536
+abbrev pub aligns : Option ℕ → Bool
+aligns None = false
+aligns (Some n) = is_alignment n
 
 abbrev pub is_aligned : Option (Ty × Operand) → Bool
 is_aligned None = false
-is_aligned (Some arg) = is_alignment (number_of arg.1)
+is_aligned (Some arg) = aligns (number_of arg.1)
 
 -- what has to be written as a number: the last argument of a memory intrinsic, which says whether it is volatile, and size and alignment of `no.alloca`, behind its count
 abbrev pub numbers_stated : Option External → List (Ty × Operand) → Bool
-numbers_stated (Some (external.Copy w)) args = is_stated (slice_get args (length args - 1))
-numbers_stated (Some (external.Fill w)) args = is_stated (slice_get args (length args - 1))
+numbers_stated (Some external.Move) args = is_stated (slice_get args (length args - 1))
+numbers_stated (Some external.Set) args = is_stated (slice_get args (length args - 1))
 numbers_stated (Some external.Alloca) args = is_stated (slice_get args 1) && is_aligned (slice_get args 2)
 numbers_stated _ args = true
-
-abbrev pub declared_external : Role → Function → Option External
-declared_external role g = if is_declared g then external_named role g.name else None
 
 -- a call of a function by its name
 abbrev pub calls : Role → Ty → List (Ty × Operand) → Option Function → Bool

@@ -1,22 +1,9 @@
 ghost use Rattle.std.specs.Prelude.{◌≡◌, map};
 ghost use Rattle.std.specs.Option.{option_copied};
-ghost use Rattle.no_typing.specs.Addresses.{begins_with, constant_field, field_below, has_address, indices_lead, inner_lead, is_declared, is_helper, is_intrinsic, may_be_taken, part_of, place_fits};
+ghost use Rattle.no_typing.specs.Addresses.{constant_field, field_below, has_address, indices_lead, inner_lead, is_helper, is_intrinsic, may_be_taken, part_of, place_fits};
 
-use crate::scalar::resolved;
+use no_module::{begins_with, is_declared, resolved};
 use no_ir::{Function, Module, Place, Role, Symbol, Ty};
-
-pub(crate) fn begins_with(stem: &[u8], name: &[u8]) -> bool
-    ensures { result ≡ begins_with stem.now name.now }
-{
-    name.starts_with(stem)
-}
-
-/// Whether a function has no blocks.
-pub fn is_declared(function: &Function) -> bool
-    ensures { result ≡ is_declared function.now }
-{
-    function.blocks.is_empty()
-}
 
 /// Whether a name is that of one of the two functions that a server's part has for the device.
 fn is_helper(role: Role, name: &[u8]) -> bool

@@ -1,12 +1,9 @@
 ghost use Rattle.std.specs.Prelude.{◌≡◌, Some, length, map, slice_get};
-ghost use Rattle.no_typing.specs.Scalars.{each_meets};
-ghost use Rattle.no_typing.specs.Typing.{args_match, bare_function, call_typed, callee_fits, calls, declared_external, direct, is_aligned, is_alignment, is_passed, is_stated, numbers_stated};
+ghost use Rattle.no_module.specs.Scalars.{each_meets};
+ghost use Rattle.no_typing.specs.Typing.{args_match, bare_function, call_typed, callee_fits, aligns, calls, direct, is_aligned, is_passed, is_stated, numbers_stated};
 
-use crate::addresses::is_declared;
-use crate::external::external_named;
 use crate::operands::{arguments_fit, is_number, number_of, operand_fits};
-use crate::scalar::{agree, is_result, same_result};
-use crate::{External, Scalar};
+use no_module::{External, Scalar, agree, declared_external, is_alignment, is_result, same_result};
 use no_ir::{Const, Function, Module, Operand, Place, Role, Symbol, Ty};
 
 /// The function that a place names without indices.
@@ -44,7 +41,7 @@ fn is_passed(arg: &(Ty, Operand), param: &(u32, Ty)) -> bool
 }
 
 /// Whether arguments have the types of parameters.
-#[tactic(auto, using(crate::proofs::Meets::meets_no_more))]
+#[tactic(auto, using(no_module::proofs::Meets::meets_no_more))]
 fn args_match(args: &[(Ty, Operand)], params: &[(u32, Ty)]) -> bool
     ensures { result ≡ each_meets (map is_passed args.now) params.now }
 {
@@ -67,12 +64,12 @@ fn is_stated_at(args: &[(Ty, Operand)], index: usize) -> bool
     }
 }
 
-/// Whether a number is a power of two up to 65,536.
-fn is_alignment(number: Option<u64>) -> bool
-    ensures { result ≡ is_alignment number }
+/// Whether there is a number, and it is an alignment.
+fn aligns(number: Option<u64>) -> bool
+    ensures { result ≡ aligns number }
 {
     match number {
-        Some(number) => number.is_power_of_two() && number <= 65536,
+        Some(number) => is_alignment(number),
         None => false,
     }
 }
@@ -81,7 +78,7 @@ fn is_aligned_at(args: &[(Ty, Operand)], index: usize) -> bool
     ensures { result ≡ is_aligned (slice_get args.now index) }
 {
     match args.get(index) {
-        Some(arg) => is_alignment(number_of(&arg.1)),
+        Some(arg) => aligns(number_of(&arg.1)),
         None => false,
     }
 }
@@ -91,21 +88,10 @@ fn numbers_stated(external: Option<External>, args: &[(Ty, Operand)]) -> bool
     ensures { result ≡ numbers_stated external args.now }
 {
     match external {
-        Some(External::Copy(_)) => is_stated_at(args, args.len().saturating_sub(1)),
-        Some(External::Fill(_)) => is_stated_at(args, args.len().saturating_sub(1)),
+        Some(External::Move) => is_stated_at(args, args.len().saturating_sub(1)),
+        Some(External::Set) => is_stated_at(args, args.len().saturating_sub(1)),
         Some(External::Alloca) => is_stated_at(args, 1) && is_aligned_at(args, 2),
         _ => true,
-    }
-}
-
-/// The external that a declared function is by its name.
-pub fn declared_external(role: Role, function: &Function) -> Option<External>
-    ensures { result ≡ declared_external role function.now }
-{
-    if is_declared(function) {
-        external_named(role, function.name.as_slice())
-    } else {
-        None
     }
 }
 

@@ -1,12 +1,12 @@
 ghost use Rattle.std.specs.Prelude.{◌≡◌, ◌^◌, map, nat_lt};
 ghost use Rattle.std.specs.List.{list_all};
 ghost use Rattle.no_ir.specs.declared.types.Ty.{out-Ty};
-ghost use Rattle.no_typing.specs.Scalars.{each_meets};
+ghost use Rattle.no_module.specs.Scalars.{each_meets};
 ghost use Rattle.no_typing.specs.Constants.{byte_step, constant_fits, elements_fit, fields_fit, global_typed, integer_type, number_fits, text_fits, value_fits};
 
-use crate::Scalar;
+use no_module::Scalar;
 use crate::addresses::place_fits;
-use crate::scalar::{is_of, is_void, resolved};
+use no_module::{is_of, is_void, resolved};
 use no_ir::{Const, GlobalVar, Module, Role, Ty};
 
 /// Whether a number has at most so many bits.
@@ -127,7 +127,7 @@ fn fields_fit(program: &Module, role: Role, fields: &[Const], t: &Ty) -> bool
 }
 
 #[cycle(constants)]
-#[tactic(auto, using(crate::proofs::Meets::meets_no_more))]
+#[tactic(auto, using(no_module::proofs::Meets::meets_no_more))]
 fn each_fits(program: &Module, role: Role, fields: &[Const], types: &[Ty]) -> bool
     ensures { result ≡ each_meets (map (constant_fits program.now role) fields.now) types.now }
 {

@@ -8,7 +8,8 @@ ghost use Rattle.no_typing.specs.Typing.{op_typed};
 use crate::constants::global_typed;
 use crate::registers::register_types;
 use crate::typing::{head_typed, op_typed};
-use crate::{FaultPlace, Scalar};
+use crate::FaultPlace;
+use no_module::Scalar;
 use no_ir::{Block, Function, GlobalVar, Module, NoMemory, Role, Ty};
 use std::alloc::Global;
 

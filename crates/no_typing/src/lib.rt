@@ -4,25 +4,21 @@
 mod addresses;
 mod calls;
 mod constants;
-mod external;
 mod faults;
 mod named;
 mod operands;
 mod paths;
 mod place;
 mod registers;
-mod scalar;
 mod switches;
 mod typing;
 mod unknown;
 
-pub use addresses::{has_address, is_declared, is_intrinsic};
-pub use calls::{declared_external, direct};
+pub use addresses::{has_address, is_intrinsic};
+pub use calls::direct;
 pub use constants::global_typed;
-pub use external::{External, external_named, is_external};
 pub use faults::type_fault;
 pub use named::module_names;
 pub use place::FaultPlace;
 pub use registers::result_of;
-pub use scalar::Scalar;
 pub use unknown::external_fault;

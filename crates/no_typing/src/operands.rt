@@ -1,12 +1,12 @@
 ghost use Rattle.std.specs.Prelude.{◌≡◌};
 ghost use Rattle.std.specs.List.{list_all};
-ghost use Rattle.no_typing.specs.Scalars.{scalar_of};
+ghost use Rattle.no_module.specs.Scalars.{scalar_of};
 ghost use Rattle.no_typing.specs.Typing.{argument_fits, count_fits, integer_fits, is_number, number_of, operand_fits};
 
-use crate::Scalar;
+use no_module::Scalar;
 use crate::constants::value_fits;
 use crate::registers::type_at;
-use crate::scalar::agree;
+use no_module::agree;
 use no_ir::{Const, Module, Operand, Role, Ty};
 
 /// Whether an operand is of a type, by the types of its function's registers; nothing is of no type.

@@ -4,7 +4,7 @@ ghost use Rattle.no_typing.specs.Typing.{field_in, stated_field};
 
 use crate::addresses::{field_below, part};
 use crate::operands::number_of;
-use crate::scalar::resolved;
+use no_module::resolved;
 use no_ir::{Module, Operand, Ty};
 
 fn field_in(number: Option<u64>) -> Option<u32>

@@ -1,14 +1,12 @@
 ghost use Rattle.std.specs.Prelude.{◌≡◌, IfOk};
 ghost use Rattle.std.specs.List.{list_all};
-ghost use Rattle.no_typing.specs.Scalars.{is_scalar};
+ghost use Rattle.no_module.specs.Scalars.{is_scalar};
 ghost use Rattle.no_typing.specs.Typing.{both_fit, cast_typed, converts, gep_typed, goes_between, head_typed, load_typed, narrows, op_typed, phi_typed, returns, select_typed, store_typed};
 
-use crate::Scalar;
-use crate::addresses::is_declared;
 use crate::calls::call_typed;
 use crate::operands::{argument_fits, count_fits, integers_fit, operand_fits, pairs_fit};
 use crate::paths::path_leads;
-use crate::scalar::{agree, is_result, is_scalar, is_void};
+use no_module::{Scalar, agree, is_declared, is_result, is_scalar, is_void};
 use crate::switches::switch_typed;
 use no_ir::{CastOp, Function, Module, NoMemory, Op, Operand, Role, Ty};
 use std::alloc::Global;

@@ -4,8 +4,7 @@ ghost use Rattle.no_typing.specs.Places.{at_function, external_fault_of};
 ghost use Rattle.no_typing.specs.Tables.{marked};
 
 use crate::FaultPlace;
-use crate::addresses::is_declared;
-use crate::external::is_external;
+use no_module::{is_declared, is_external};
 use crate::faults::counted;
 use crate::named::module_names;
 use no_ir::{Function, Module, NoMemory, Role};

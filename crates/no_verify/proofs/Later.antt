@@ -6,7 +6,7 @@ use Rattle.no_ir.specs.declared.function.Module.{Module}
 use Rattle.no_layout.specs.Sizes.{sizes_of}
 use Rattle.no_layout.specs.declared.extent.Extent.{Extent}
 use Rattle.no_layout.specs.declared.layout.Layout.{Layout}
-use Rattle.no_semantics.specs.Sound.{type_fits}
+use Rattle.no_room.specs.Fits.{type_fits}
 use Rattle.no_typing.specs.declared.place.FaultPlace.{FaultPlace}
 use Rattle.no_kinds.specs.Finding.{unless_whole}
 use Rattle.no_kinds.specs.Large.{global_fits, large_of, large_with, named_fit}

@@ -12,7 +12,7 @@ use Rattle.no_layout.specs.declared.fault.LayoutFault.{LayoutFault}
 use Rattle.no_layout.specs.declared.layout.Layout.{Layout}
 use Rattle.no_paths.specs.Paths.{IsAnswer}
 use Rattle.no_paths.proofs.Judging.{one_answer}
-use Rattle.no_semantics.specs.Accepted.{Accepted}
+use Rattle.no_room.specs.Accepted.{Accepted}
 use Rattle.no_typing.specs.Places.{fault_at}
 use Rattle.no_typing.specs.declared.place.FaultPlace.{FaultPlace}
 use Rattle.no_verify.specs.Kinds.{IsPlace, IsUnassignedAt, IsUnassignedPlace}

@@ -5,7 +5,7 @@ use Rattle.no_ir.specs.declared.function.Role.{Role}
 use Rattle.no_layout.specs.Sizes.{sizes_of}
 use Rattle.no_layout.specs.Text.{layout_of}
 use Rattle.no_layout.specs.declared.layout.Layout.{Layout}
-use Rattle.no_semantics.specs.Accepted.{Accepted}
+use Rattle.no_room.specs.Accepted.{Accepted}
 use Rattle.no_typing.specs.declared.place.FaultPlace.{FaultPlace}
 use Rattle.no_typing.specs.Places.{fault_at}
 use Rattle.no_verify.specs.declared.fault.VerifyKind.{VerifyKind}

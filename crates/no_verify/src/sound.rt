@@ -18,7 +18,7 @@ pub struct Sound {
 impl Model for Sound {
     ghost use Rattle.std.specs.Prelude.{◌≡◌, true};
     ghost use Rattle.no_layout.specs.Text.{is_formed};
-    ghost use Rattle.no_semantics.specs.Accepted.{Accepted};
+    ghost use Rattle.no_room.specs.Accepted.{Accepted};
     ghost use Rattle.no_verify.specs.Verdict.{IsAccepted};
 
     ghost Value = { Accepted };

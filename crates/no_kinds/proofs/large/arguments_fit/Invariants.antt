@@ -1,7 +1,7 @@
 use Rattle.std.proofs.Common.{drop, ◌≡◌}
 use Rattle.std.specs.List.{list_all}
 use Rattle.no_kinds.specs.Parts.{argument_types}
-use Rattle.no_semantics.specs.Sound.{type_fits}
+use Rattle.no_room.specs.Fits.{type_fits}
 use Rattle.no_kinds.proofs.large.arguments_fit.Given as goal
 
 abbrev pub invariant-loop-argument : goal.invariant-loop-argument

@@ -1,6 +1,6 @@
 use Rattle.std.proofs.Common.{drop, ◌≡◌}
 use Rattle.std.specs.List.{list_all}
-use Rattle.no_semantics.specs.Sound.{type_fits}
+use Rattle.no_room.specs.Fits.{type_fits}
 use Rattle.no_kinds.proofs.large.params_fit.Given as goal
 
 abbrev pub invariant-loop-param : goal.invariant-loop-param

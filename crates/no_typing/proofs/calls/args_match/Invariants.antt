@@ -1,5 +1,5 @@
 use Rattle.std.proofs.Common.{◌≡◌, drop, map}
-use Rattle.no_typing.specs.Scalars.{each_meets}
+use Rattle.no_module.specs.Scalars.{each_meets}
 use Rattle.no_typing.specs.Typing.{is_passed}
 use Rattle.no_typing.proofs.calls.args_match.Given as goal
 

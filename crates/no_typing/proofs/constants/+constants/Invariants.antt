@@ -1,6 +1,6 @@
 use Rattle.std.proofs.Common.{◌≡◌, drop, map}
 use Rattle.std.specs.List.{list_all}
-use Rattle.no_typing.specs.Scalars.{each_meets}
+use Rattle.no_module.specs.Scalars.{each_meets}
 use Rattle.no_typing.specs.Constants.{constant_fits}
 use Rattle.no_typing.proofs.constants.+constants.Given as goal
 

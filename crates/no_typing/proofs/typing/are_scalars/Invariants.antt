@@ -1,6 +1,6 @@
 use Rattle.std.proofs.Common.{◌≡◌, drop}
 use Rattle.std.specs.List.{list_all}
-use Rattle.no_typing.specs.Scalars.{is_scalar}
+use Rattle.no_module.specs.Scalars.{is_scalar}
 use Rattle.no_typing.proofs.typing.are_scalars.Given as goal
 
 abbrev pub invariant-loop-param : goal.invariant-loop-param

@@ -1,8 +1,8 @@
 use Rattle.std.proofs.Common.{ℕ, ◌<◌, true, sym, subst}
 use Rattle.no_layout.specs.Memory.{globals_limit}
-use Rattle.no_semantics.specs.Image.{end_of}
-use Rattle.no_kinds.proofs.Ends.{late}
-use Rattle.no_kinds.proofs.room.globals_end.Goals as goal
+use Rattle.no_room.specs.Ends.{end_of}
+use Rattle.no_room.proofs.Growing.{late}
+use Rattle.no_room.proofs.ends.have_room.Goals as goal
 
 pub returns-in-None : goal.returns-in-None
 returns-in-None c =

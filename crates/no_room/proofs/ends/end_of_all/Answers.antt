@@ -1,9 +1,9 @@
 use Rattle.std.proofs.Common.{◌<◌, ◌≤◌, arith}
 use Rattle.no_ir.specs.declared.function.GlobalVar.{GlobalVar}
 use Rattle.no_layout.specs.Memory.{globals_limit}
-use Rattle.no_semantics.specs.Sound.{type_fits}
-use Rattle.no_kinds.proofs.Ends.{fits_at, passed, went_on}
-use Rattle.no_kinds.proofs.room.end_of_all.Goals as goal
+use Rattle.no_room.specs.Fits.{type_fits}
+use Rattle.no_room.proofs.Growing.{fits_at, passed, went_on}
+use Rattle.no_room.proofs.ends.end_of_all.Goals as goal
 
 pub end_behind-end-requires-clause-fits : goal.end_behind-end-requires-clause-fits
 end_behind-end-requires-clause-fits c =

@@ -11,7 +11,7 @@ use Rattle.no_layout.specs.declared.extent.Extent.{Extent}
 use Rattle.no_layout.specs.declared.layout.Layout.{Layout}
 use Rattle.no_layout.specs.Memory.{globals_limit, constants_start}
 use Rattle.no_layout.specs.Sizes.{type_size}
-use Rattle.no_semantics.specs.Image.{addresses_of, addresses_behind, address_behind, start_of, end_of, end_with, global_align, place_behind, same_kind, constants_end_of, globals_start_of, regions_of}
+use Rattle.no_room.specs.Ends.{addresses_of, addresses_behind, address_behind, start_of, end_of, end_with, global_align, place_behind, same_kind, constants_end_of, globals_start_of, regions_of}
 
 above : (x y : ℕ) → x ≤ x + y
 above x y = omega arith
