@@ -1,15 +1,16 @@
 -- What the values of rules are, for each way to make a rule. A rule over the names of a function says it of each function that
 -- has at least as many names as have appeared.
-use Rattle.std.proofs.Common.{◌≡◌, ℕ, ◌≤◌, Bool, true, false, List, [], ◌∷◌, ◌++◌, length, if◌then◌else◌, Option, Some, None, Result, Ok, Err, inl, inr, refl, sym, ap, subst, ◌∙◌, arith}
+use Rattle.std.proofs.Common.{◌≡◌, ℕ, suc, zero, ◌≤◌, Bool, true, false, List, [], ◌∷◌, ◌++◌, length, if◌then◌else◌, Option, Some, None, Result, Ok, Err, inl, inr, refl, sym, ap, subst, ◌∙◌, arith}
 use Rattle.std.specs.List.{list_all}
 use Rattle.no_lex.specs.declared.token.Token.{Token}
 use Rattle.no_grammar.specs.declared.fault.Flaw.{Flaw}
 use Rattle.no_grammar.specs.Lists.{closes_list, more_item, some_items, no_items, items}
 use Rattle.no_grammar.specs.Repeated.{repeat}
 use Rattle.no_grammar.specs.Rules.{Rule, one, keeping, plain, done, change, ◌>>=◌, lift, choose, if_next, maybe, checked}
+use Rattle.no_grammar.specs.Spelled.{is_sign, a_sign, only_where}
 use Rattle.no_values.specs.Skipped.{behind}
 use Rattle.no_attrs.specs.Ending.{ahead}
-use Rattle.no_forms.specs.Folded.{folded}
+use Rattle.no_forms.specs.Folded.{folded, AreSteps}
 use Rattle.no_locals.specs.declared.locals.Locals.{Locals}
 
 -- ---- rules whose value does not speak of names
@@ -28,7 +29,7 @@ kept : {S A : Type 0} (s t : S) (a : A) (r : Result A Flaw) → keeping s r ≡ 
 kept {S = S} {A = A} s t a (Ok x) e = ap (λ (y : A). Ok y) (ap (λ (z : A × S). z.0) (from_ok (x, s) (a, t) e))
 kept s t a (Err flaw) e = absurd cc
 
-kept_state : {S A : Type 0} (s t : S) (a : A) (r : Result A Flaw) → keeping s r ≡ Ok (a, t) → t ≡ s
+pub kept_state : {S A : Type 0} (s t : S) (a : A) (r : Result A Flaw) → keeping s r ≡ Ok (a, t) → t ≡ s
 kept_state {S = S} {A = A} s t a (Ok x) e = sym (ap (λ (z : A × S). z.1) (from_ok (x, s) (a, t) e))
 kept_state s t a (Err flaw) e = absurd cc
 
@@ -87,9 +88,14 @@ module _ {S A : Type 0} (P : A → Type 0) where
 
   pub items_all : (text close : List ℕ) (item : Rule S A) → All P item → All (Each P) (items text close item)
   unfolding items no_items some_items
-  items_all text close item h = if_next_all (Each P) _ _ _
-      (skip_all (Each P) _ _ (λ _. done_all (Each P) [] tt))
-      (then_all P (Each P) item _ h (λ a k. then_all (Each P) (Each P) (repeat (more_item text close item)) _ (repeat_all (more_item text close item) (more_item_all text close item h)) (λ others l. done_all (Each P) (a ∷ others) (k, l))))
+  items_all text close item h = if_next_all (Each P) (is_sign text close) (no_items text close) (some_items text close item) nothing some
+    where
+      nothing : All {S = S} (Each P) (no_items text close)
+      nothing = skip_all (Each P) (a_sign text close) (λ _. done []) (λ _. done_all (Each P) [] tt)
+
+      some : All {S = S} (Each P) (some_items text close item)
+      some = then_all P (Each P) item (λ first. repeat (more_item text close item) >>= λ others. done (first ∷ others)) h
+          (λ a k. then_all (Each P) (Each P) (repeat (more_item text close item)) (λ others. done (a ∷ others)) (repeat_all (more_item text close item) (more_item_all text close item h)) (λ others l. done_all (Each P) (a ∷ others) (k, l)))
 
 pub each_true : {A : Type 0} (f : A → Bool) (xs : List A) → Each (λ x. f x ≡ true) xs → list_all f xs ≡ true
 each_true f [] k = refl
@@ -191,3 +197,55 @@ module _ {A : Type 0} (P : ℕ → ℕ → A → Type 0) where
 
   pub some_says : (p : Rule Locals A) → Says P p → Says (λ r l. Maybe (P r l)) (p >>= λ a. done (Some a))
   some_says p h = then_says P (λ r l. Maybe (P r l)) p (λ a. done (Some a)) h (λ a. done_says (λ r l b. P r l a → Maybe (P r l) b) (Some a) (λ r l k. k))
+
+-- a first token of which nothing is said
+pub skip_plain : {A B : Type 0} (Q : ℕ → ℕ → B → Type 0) (f : Token → Result A Flaw) (q : A → Rule Locals B) → ((a : A) → Says Q (q a)) → Says Q (plain f >>= q)
+skip_plain Q f q k s t used b m =
+    let x = stays_as s m.between (kept_state s m.between m.first (f m.in_front.token) m.in_front.value) in
+    let y = k m.first m.between t m.back b m.in_back in
+    (goes_on s m.between t x y.0, y.1)
+
+module _ {A : Type 0} (P : ℕ → ℕ → A → Type 0) (text close : List ℕ) (item : Rule Locals A) (h : Says P item) where
+  more_item_says : Says (λ r l. Maybe (P r l)) (more_item text close item)
+  unfolding more_item
+  more_item_says = skip_plain (λ r l. Maybe (P r l)) (closes_list text close) (λ closes. choose closes (done None) (item >>= λ a. done (Some a)))
+      (λ closes. choose_says (λ r l. Maybe (P r l)) closes (done None) (item >>= λ a. done (Some a)) (done_says (λ r l. Maybe (P r l)) None (λ r l. tt)) (some_says P item h))
+
+  no_items_say : Says (λ r l. Each (P r l)) (no_items text close)
+  unfolding no_items
+  no_items_say = skip_plain (λ r l. Each (P r l)) (λ token. only_where (is_sign text close token)) (λ _. done []) (λ _. done_says (λ r l. Each (P r l)) [] (λ r l. tt))
+
+  some_items_say : Says (λ r l. Each (P r l)) (some_items text close item)
+  unfolding some_items
+  some_items_say = then_says P (λ r l. Each (P r l)) item (λ first. repeat (more_item text close item) >>= λ others. done (first ∷ others)) h
+      (λ a. then_says (λ r l. Each (P r l)) (λ r l all. P r l a → Each (P r l) all) (repeat (more_item text close item)) (λ others. done (a ∷ others)) (repeat_says P (more_item text close item) more_item_says)
+      (λ others. done_says (λ r l all. Each (P r l) others → P r l a → Each (P r l) all) (a ∷ others) (λ r l k e. (e, k))))
+
+  pub items_say : Says (λ r l. Each (P r l)) (items text close item)
+  unfolding items
+  items_say = if_next_says (λ r l. Each (P r l)) (is_sign text close) (no_items text close) (some_items text close item) no_items_say some_items_say
+
+-- ---- rules that go on step by step
+
+module _ {S A : Type 0} (P : A → Type 0) (test : Token → Bool) (step : A → Rule S A) (h : (x : A) → P x → All P (step x)) where
+  steps_all : (n : ℕ) (x : A) → P x → (s t : S) (used : List Token) (y : A) → AreSteps test step n s used x y t → P y
+  steps_all zero x p s t used y k = subst P (sym k.1) p
+  steps_all (suc n) x p s t used y k = steps_all n k.value (h x p s k.between k.front k.value k.first) k.between t k.back y k.others
+
+  pub folded_all : (x : A) → P x → All P (folded test step x)
+  folded_all x p s t used y k = steps_all k.0 x p s t used y k.1
+
+module _ {A : Type 0} (P : ℕ → ℕ → A → Type 0) (test : Token → Bool) (step : A → Rule Locals A) (h : (x : A) → Says (λ r l y. P r l x → P r l y) (step x)) where
+  steps_say : (n : ℕ) (x : A) (s t : Locals) (used : List Token) (y : A) → AreSteps test step n s used x y t → Grows s t × ((r l : ℕ) → Holds t r l → P r l x → P r l y)
+  steps_say zero x s t used y k = (stays_as s t k.2, λ r l z p. subst (P r l) (sym k.1) p)
+  steps_say (suc n) x s t used y k =
+      let u = h x s k.between k.front k.value k.first in
+      let v = steps_say n k.value k.between t k.back y k.others in
+      (goes_on s k.between t u.0 v.0, λ r l z p. v.1 r l z (u.1 r l (held k.between t r l v.0 z) p))
+
+  pub folded_says : (x : A) → Says (λ r l y. P r l x → P r l y) (folded test step x)
+  folded_says x s t used y k = steps_say k.0 x s t used y k.1
+
+pub each_push : {A : Type 0} (P : A → Type 0) (xs : List A) (x : A) → Each P xs → P x → Each P (xs ++ x ∷ [])
+each_push P [] x k p = (p, tt)
+each_push P (y ∷ ys) x k p = (k.0, each_push P ys x k.1 p)

@@ -1,5 +1,5 @@
 -- Types that were read are formed.
-use Rattle.std.proofs.Common.{◌≡◌, ℕ, suc, zero, Bool, true, false, List, [], ◌∷◌, length, bytes_eq, codes, if◌then◌else◌, Option, Some, None, Result, Ok, Err, nat_lt, refl, sym, ap, subst, ◌∙◌}
+use Rattle.std.proofs.Common.{◌≡◌, ℕ, suc, zero, Bool, true, false, List, [], ◌∷◌, length, bytes_eq, codes, map, if◌then◌else◌, Option, Some, None, Result, Ok, Err, nat_lt, refl, sym, ap, subst, ◌∙◌}
 use Rattle.std.specs.Prelude.{position}
 use Rattle.std.specs.List.{list_all}
 use Rattle.std.proofs.lemmas.Bool.{lt-ltb}
@@ -7,8 +7,11 @@ use Rattle.std.proofs.lemmas.List.Quantifiers.{position-Some}
 use Rattle.no_lex.specs.declared.token.Token.{Token}
 use Rattle.no_lex.specs.declared.token.TokenKind.{TokenKind}
 use Rattle.no_lex.specs.declared.token.TokenKind.TheVariants as kind
-use Rattle.no_ir.specs.declared.types.Ty.{Ty}
+use Rattle.no_ir.specs.declared.types.Ty.{Ty, roll-Ty}
+use Rattle.no_ir.specs.declared.types.Ty.TheOpen.{Ty-F}
+use Rattle.no_ir.specs.declared.types.Ty.TheFolds.{fold-roll-Ty, map-Ty}
 use Rattle.no_ir.specs.declared.types.Ty.TheVariants as ty
+use Rattle.no_ir.specs.declared.types.Ty.TheVariants.{rolls-Int, rolls-Ptr, rolls-Array, rolls-Struct, rolls-Named}
 use Rattle.no_grammar.specs.declared.fault.Flaw.{Flaw}
 use Rattle.no_grammar.specs.declared.fault.Flaw.TheVariants.{Syntax, LeftOut}
 use Rattle.no_grammar.specs.declared.types.TypeHead.{TypeHead}
@@ -19,18 +22,18 @@ use Rattle.no_grammar.specs.Scope.{Meaning}
 use Rattle.no_grammar.specs.Spelled.{spelled, a_word, a_sign}
 use Rattle.no_grammar.specs.Types.{word_type, sign_type, named_type, number_in, head_by, type_head, leaf_of, count_token, array_parts, struct_parts, packed_parts, after_type_head, a_type}
 use Rattle.no_grammar.specs.Unescaped.{name_of}
-use Rattle.no_module.specs.Formed.{type_formed}
+use Rattle.no_module.specs.Formed.{type_formed, type_step}
 use Rattle.no_module.specs.Widths.{is_width}
 use Rattle.no_formed.proofs.Saying.{All, Each, plain_all, done_all, then_all, checked_all, skip_all, items_all}
 
-abbrev got : {A : Type 0} → A → Result A Flaw
+abbrev pub got : {A : Type 0} → A → Result A Flaw
 got h = Ok h
 
 pub from_got : {A : Type 0} (x y : A) → got x ≡ got y → x ≡ y
 from_got x y e = cc
 
 -- what a token that begins a type says
-pub head_formed : ℕ → TypeHead → Bool
+unfoldable pub head_formed : ℕ → TypeHead → Bool
 head_formed n (head.Int w) = is_width w
 head_formed n (head.Named k) = nat_lt k n
 head_formed n _ = true
@@ -93,18 +96,38 @@ IsType n t = type_formed n t ≡ true
 abbrev HeadIs : ℕ → TypeHead → Type 0
 HeadIs n h = head_formed n h ≡ true
 
+-- ---- form by form
+
+layer : (n : ℕ) (x : Ty-F Ty) (t : Ty) → roll-Ty x ≡ t → type_formed n t ≡ type_step n (map-Ty Ty Bool (type_formed n) x)
+layer n x t e = ap (type_formed n) (sym e) ∙ fold-roll-Ty Bool (type_step n) x
+
+pub int_formed : (n w : ℕ) → type_formed n (ty.Int w) ≡ is_width w
+int_formed n w = layer n (Ty-F.Int w) (ty.Int w) (rolls-Int w)
+
+pub ptr_formed : (n : ℕ) → IsType n ty.Ptr
+ptr_formed n = layer n Ty-F.Ptr ty.Ptr rolls-Ptr
+
+pub named_formed : (n k : ℕ) → type_formed n (ty.Named k) ≡ nat_lt k n
+named_formed n k = layer n (Ty-F.Named k) (ty.Named k) (rolls-Named k)
+
+pub array_formed : (n count : ℕ) (element : Ty) → type_formed n (ty.Array count element) ≡ type_formed n element
+array_formed n count element = layer n (Ty-F.Array count element) (ty.Array count element) (rolls-Array count element)
+
+pub struct_formed : (n : ℕ) (packed : Bool) (fields : List Ty) → type_formed n (ty.Struct packed fields) ≡ list_all (λ field. field) (map (type_formed n) fields)
+struct_formed n packed fields = layer n (Ty-F.Struct packed fields) (ty.Struct packed fields) (rolls-Struct packed fields)
+
+each_field : (n : ℕ) (fields : List Ty) → Each (IsType n) fields → list_all (λ field. field) (map (type_formed n) fields) ≡ true
+each_field n [] k = refl
+each_field n (t ∷ ts) k = rw (k.0, each_field n ts k.1) refl
+
 all_in : (n : ℕ) (fields : List Ty) (packed : Bool) → Each (IsType n) fields → IsType n (ty.Struct packed fields)
-all_in n fields packed k = go fields k
-  where
-    go : (ts : List Ty) → Each (IsType n) ts → IsType n (ty.Struct packed ts)
-    go [] k = refl
-    go (t ∷ ts) k = rw (k.0) (go ts k.1)
+all_in n fields packed k = struct_formed n packed fields ∙ each_field n fields k
 
 leaf_formed : (n : ℕ) (h : TypeHead) (t : Ty) → head_formed n h ≡ true → leaf_of h ≡ Ok t → IsType n t
 unfolding head_formed
-leaf_formed n (head.Int w) t e m = subst (IsType n) (from_got (ty.Int w) t m) e
-leaf_formed n head.Ptr t e m = subst (IsType n) (from_got ty.Ptr t m) refl
-leaf_formed n (head.Named k) t e m = subst (IsType n) (from_got (ty.Named k) t m) e
+leaf_formed n (head.Int w) t e m = subst (IsType n) (from_got (ty.Int w) t m) (int_formed n w ∙ e)
+leaf_formed n head.Ptr t e m = subst (IsType n) (from_got ty.Ptr t m) (ptr_formed n)
+leaf_formed n (head.Named k) t e m = subst (IsType n) (from_got (ty.Named k) t m) (named_formed n k ∙ e)
 leaf_formed n head.Array t e m = absurd cc
 leaf_formed n head.Struct t e m = absurd cc
 leaf_formed n head.Packed t e m = absurd cc
@@ -120,7 +143,7 @@ module _ (m : Meaning) where
     array_all : All (IsType N) (array_parts m inner)
     unfolding array_parts
     array_all = skip_all (IsType N) (plain (count_token m.text)) _ (λ count. skip_all (IsType N) (a_word m.text (codes "x")) _
-        (λ _. then_all (IsType N) (IsType N) inner _ h (λ element k. skip_all (IsType N) (a_sign m.text (codes "]")) _ (λ _. done_all (IsType N) (ty.Array count element) k))))
+        (λ _. then_all (IsType N) (IsType N) inner _ h (λ element k. skip_all (IsType N) (a_sign m.text (codes "]")) _ (λ _. done_all (IsType N) (ty.Array count element) (array_formed N count element ∙ k)))))
 
     struct_all : All (IsType N) (struct_parts m inner)
     unfolding struct_parts
@@ -133,9 +156,9 @@ module _ (m : Meaning) where
 
     after_all : (k : TypeHead) → HeadIs N k → All (IsType N) (after_type_head m inner k)
     unfolding head_formed
-    after_all (head.Int w) e = done_all (IsType N) (ty.Int w) e
-    after_all head.Ptr e = done_all (IsType N) ty.Ptr refl
-    after_all (head.Named k) e = done_all (IsType N) (ty.Named k) e
+    after_all (head.Int w) e = done_all (IsType N) (ty.Int w) (int_formed N w ∙ e)
+    after_all head.Ptr e = done_all (IsType N) ty.Ptr (ptr_formed N)
+    after_all (head.Named k) e = done_all (IsType N) (ty.Named k) (named_formed N k ∙ e)
     after_all head.Array e = array_all
     after_all head.Struct e = struct_all
     after_all head.Packed e = packed_all

@@ -1,12 +1,21 @@
 ghost use Rattle.std.specs.Prelude.{◌≡◌, ℕ, List, length, true};
 ghost use Rattle.no_lex.specs.declared.token.Token.{Token};
 ghost use Rattle.no_ir.specs.declared.types.Ty.{Ty};
+ghost use Rattle.no_ir.specs.declared.function.Module.{Module};
+ghost use Rattle.no_ir.specs.declared.function.Role.{Role};
 ghost use Rattle.no_grammar.specs.Scope.{Meaning};
 ghost use Rattle.no_grammar.specs.Types.{a_type};
-ghost use Rattle.no_module.specs.Formed.{type_formed};
+ghost use Rattle.no_modules.specs.Modules.{IsModuleOf};
+ghost use Rattle.no_module.specs.Formed.{IsFormed, type_formed};
+ghost use Rattle.no_module.specs.Marks.{MarksAllowed};
+ghost use Rattle.no_formed.specs.Named.{IsTyped};
 
-/// A type that is read is formed.
-#[tactic(auto, using(crate::proofs::Types::type_all))]
+/// The module that the forms of a text give is formed, where its named types are: each width, constant, case, alignment and
+/// number of it is in its range, and void stands only where it may. In a source no instruction and no function has a mark of
+/// a server's part.
+#[tactic(auto, using(crate::proofs::Types::type_all, crate::proofs::Modules::read_formed, crate::proofs::Modules::read_marks))]
 pub fn what_is_read_is_formed()
-    ensures { (m : Meaning) (depth : ℕ) (s t : Unit {0}) (used : List Token) (a : Ty) → (a_type m depth).means s used a t → type_formed (length m.named) a ≡ true }
+    ensures types { (m : Meaning) (depth : ℕ) (s t : Unit {0}) (used : List Token) (a : Ty) → (a_type m depth).means s used a t → type_formed (length m.named) a ≡ true }
+    ensures modules { (m : Meaning) (role : Role) (types : List (List ℕ × Ty)) (tokens : List Token) (found : Module) → IsModuleOf m role types tokens found → IsTyped m types tokens → IsFormed found }
+    ensures marks { (m : Meaning) (role : Role) (types : List (List ℕ × Ty)) (tokens : List Token) (found : Module) → IsModuleOf m role types tokens found → IsTyped m types tokens → MarksAllowed role found }
 {}

@@ -2,8 +2,8 @@ ghost use Rattle.std.specs.Prelude.{◌≡◌, map};
 ghost use Rattle.std.specs.Option.{option_copied};
 ghost use Rattle.no_typing.specs.Addresses.{constant_field, field_below, has_address, indices_lead, inner_lead, is_helper, is_intrinsic, may_be_taken, part_of, place_fits};
 
-use no_module::{begins_with, is_declared, resolved};
 use no_ir::{Function, Module, Place, Role, Symbol, Ty};
+use no_module::{begins_with, is_declared, resolved};
 
 /// Whether a name is that of one of the two functions that a server's part has for the device.
 fn is_helper(role: Role, name: &[u8]) -> bool

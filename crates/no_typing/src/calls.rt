@@ -3,8 +3,8 @@ ghost use Rattle.no_module.specs.Scalars.{each_meets};
 ghost use Rattle.no_typing.specs.Typing.{args_match, bare_function, call_typed, callee_fits, aligns, calls, direct, is_aligned, is_passed, is_stated, numbers_stated};
 
 use crate::operands::{arguments_fit, is_number, number_of, operand_fits};
-use no_module::{External, Scalar, agree, declared_external, is_alignment, is_result, same_result};
 use no_ir::{Const, Function, Module, Operand, Place, Role, Symbol, Ty};
+use no_module::{External, Scalar, agree, declared_external, is_alignment, is_result, same_result};
 
 /// The function that a place names without indices.
 fn bare_function(place: &Place) -> Option<u32>

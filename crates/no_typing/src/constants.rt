@@ -4,10 +4,9 @@ ghost use Rattle.no_ir.specs.declared.types.Ty.{out-Ty};
 ghost use Rattle.no_module.specs.Scalars.{each_meets};
 ghost use Rattle.no_typing.specs.Constants.{byte_step, constant_fits, elements_fit, fields_fit, global_typed, integer_type, number_fits, text_fits, value_fits};
 
-use no_module::Scalar;
 use crate::addresses::place_fits;
-use no_module::{is_of, is_void, resolved};
 use no_ir::{Const, GlobalVar, Module, Role, Ty};
+use no_module::{Scalar, is_of, is_void, resolved};
 
 /// Whether a number has at most so many bits.
 #[tactic(auto, using(crate::proofs::Numbers::shifted_away, crate::proofs::Numbers::wide_enough))]

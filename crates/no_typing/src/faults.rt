@@ -5,12 +5,12 @@ ghost use Rattle.no_typing.specs.Constants.{global_typed};
 ghost use Rattle.no_typing.specs.Places.{first_found, function_fault, placed, type_fault_of, typed, wrong_among, wrong_in};
 ghost use Rattle.no_typing.specs.Typing.{op_typed};
 
+use crate::FaultPlace;
 use crate::constants::global_typed;
 use crate::registers::register_types;
 use crate::typing::{head_typed, op_typed};
-use crate::FaultPlace;
-use no_module::Scalar;
 use no_ir::{Block, Function, GlobalVar, Module, NoMemory, Role, Ty};
+use no_module::Scalar;
 use std::alloc::Global;
 
 fn globals_typed(program: &Module, role: Role, globals: &[GlobalVar]) -> bool

@@ -3,11 +3,10 @@ ghost use Rattle.std.specs.List.{list_all};
 ghost use Rattle.no_module.specs.Scalars.{scalar_of};
 ghost use Rattle.no_typing.specs.Typing.{argument_fits, count_fits, integer_fits, is_number, number_of, operand_fits};
 
-use no_module::Scalar;
 use crate::constants::value_fits;
 use crate::registers::type_at;
-use no_module::agree;
 use no_ir::{Const, Module, Operand, Role, Ty};
+use no_module::{Scalar, agree};
 
 /// Whether an operand is of a type, by the types of its function's registers; nothing is of no type.
 pub(crate) fn operand_fits(

@@ -4,8 +4,8 @@ ghost use Rattle.no_typing.specs.Typing.{field_in, stated_field};
 
 use crate::addresses::{field_below, part};
 use crate::operands::number_of;
-use no_module::resolved;
 use no_ir::{Module, Operand, Ty};
+use no_module::resolved;
 
 fn field_in(number: Option<u64>) -> Option<u32>
     ensures { result ≡ field_in number }

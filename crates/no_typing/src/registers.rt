@@ -3,8 +3,8 @@ ghost use Rattle.std.specs.List.{flat_map};
 ghost use Rattle.no_typing.specs.Registers.{all_defined, block_defined, instr_defined, param_defined, register_types, result_of, type_at};
 ghost use Rattle.no_typing.specs.Tables.{overwritten};
 
-use no_module::Scalar;
 use no_ir::{Block, Function, Instr, NoMemory, Op, Ty};
+use no_module::Scalar;
 use std::alloc::Global;
 
 /// The type of an instruction's result; none where it gives nothing, or nothing that a register holds.

@@ -2,10 +2,10 @@ ghost use Rattle.std.specs.Prelude.{◌≡◌, ◌^◌, IfOk, nat_lt};
 ghost use Rattle.std.specs.List.{list_all};
 ghost use Rattle.no_typing.specs.Typing.{all_differ, case_numbers, switch_typed};
 
-use no_module::Scalar;
 use crate::constants::has_bits;
 use crate::operands::operand_fits;
 use no_ir::{Module, NoMemory, Operand, Role};
+use no_module::Scalar;
 use std::alloc::Global;
 use std::collections::BTreeSet;
 

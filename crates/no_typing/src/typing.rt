@@ -6,9 +6,9 @@ ghost use Rattle.no_typing.specs.Typing.{both_fit, cast_typed, converts, gep_typ
 use crate::calls::call_typed;
 use crate::operands::{argument_fits, count_fits, integers_fit, operand_fits, pairs_fit};
 use crate::paths::path_leads;
-use no_module::{Scalar, agree, is_declared, is_result, is_scalar, is_void};
 use crate::switches::switch_typed;
 use no_ir::{CastOp, Function, Module, NoMemory, Op, Operand, Role, Ty};
+use no_module::{Scalar, agree, is_declared, is_result, is_scalar, is_void};
 use std::alloc::Global;
 
 /// Whether both are integer types, and the second is the narrower.

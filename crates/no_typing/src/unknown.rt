@@ -4,10 +4,10 @@ ghost use Rattle.no_typing.specs.Places.{at_function, external_fault_of};
 ghost use Rattle.no_typing.specs.Tables.{marked};
 
 use crate::FaultPlace;
-use no_module::{is_declared, is_external};
 use crate::faults::counted;
 use crate::named::module_names;
 use no_ir::{Function, Module, NoMemory, Role};
+use no_module::{is_declared, is_external};
 use std::alloc::Global;
 
 /// So many functions without a mark.
