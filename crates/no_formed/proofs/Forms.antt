@@ -57,7 +57,7 @@ place_most p (first ∷ names) = by (p first) refl (place_most p names)
     by true e h = rw e (omega arith)
     by false e h = rw e (omega (arith, h))
 
-known_place : (p : List ℕ → Bool) (names : List (List ℕ)) → list_any p names ≡ true → position_or_len p names < length names
+pub known_place : (p : List ℕ → Bool) (names : List (List ℕ)) → list_any p names ≡ true → position_or_len p names < length names
 known_place p [] h = absurd (true≢false (sym h))
 known_place p (first ∷ names) h = by (p first) refl h (known_place p names)
   where

@@ -1,7 +1,12 @@
+pub mod Begins
 pub mod Flow
 pub mod Forms
 pub mod Functions
+pub mod Lifted
+pub mod Lower
 pub mod Modules
+pub mod Order
 pub mod Saying
+pub mod Typed
 pub mod Types
 pub mod Values

@@ -25,7 +25,7 @@ okay x = Ok x
 from_ok : {A : Type 0} (x y : A) → okay x ≡ okay y → x ≡ y
 from_ok x y e = cc
 
-kept : {S A : Type 0} (s t : S) (a : A) (r : Result A Flaw) → keeping s r ≡ Ok (a, t) → r ≡ Ok a
+pub kept : {S A : Type 0} (s t : S) (a : A) (r : Result A Flaw) → keeping s r ≡ Ok (a, t) → r ≡ Ok a
 kept {S = S} {A = A} s t a (Ok x) e = ap (λ (y : A). Ok y) (ap (λ (z : A × S). z.0) (from_ok (x, s) (a, t) e))
 kept s t a (Err flaw) e = absurd cc
 

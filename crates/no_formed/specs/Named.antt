@@ -4,6 +4,7 @@ use Rattle.no_lex.specs.declared.token.Token.{Token}
 use Rattle.no_ir.specs.declared.types.Ty.{Ty}
 use Rattle.no_grammar.specs.Scope.{Meaning}
 use Rattle.no_scope.specs.Scan.{symbols_in}
+use Rattle.no_types.specs.declared.lifted.Lifted.{Lifted}
 use Rattle.no_values.specs.Constants.{resolved}
 use Rattle.no_module.specs.Formed.{types_formed}
 use Rattle.no_module.specs.Named.{resolved as stands_for}
@@ -16,3 +17,7 @@ pub record IsTyped (m : Meaning) (types : List (List ℕ × Ty)) (tokens : List 
   pub named : length types ≡ length m.named
   pub stand : (t : Ty) → resolved m t ≡ stands_for types t
   pub lower : types_formed 0 types ≡ true
+
+-- what names mean in the forms of a text, once its type definitions are lifted out
+abbrev pub meaning_in : List ℕ → Lifted → Meaning
+meaning_in text x = record { text = text; named = x.named; types = x.types; globals = (symbols_in text x.rest).globals; functions = (symbols_in text x.rest).functions }

@@ -1,4 +1,5 @@
-ghost use Rattle.std.specs.Prelude.{◌≡◌, ℕ, List, length, true};
+ghost use Rattle.std.specs.Prelude.{◌≡◌, ℕ, List, length, Ok, true};
+ghost use Rattle.std.specs.List.{zip};
 ghost use Rattle.no_lex.specs.declared.token.Token.{Token};
 ghost use Rattle.no_ir.specs.declared.types.Ty.{Ty};
 ghost use Rattle.no_ir.specs.declared.function.Module.{Module};
@@ -8,7 +9,11 @@ ghost use Rattle.no_grammar.specs.Types.{a_type};
 ghost use Rattle.no_modules.specs.Modules.{IsModuleOf};
 ghost use Rattle.no_module.specs.Formed.{IsFormed, type_formed};
 ghost use Rattle.no_module.specs.Marks.{MarksAllowed};
-ghost use Rattle.no_formed.specs.Named.{IsTyped};
+ghost use Rattle.no_types.specs.declared.definition.Lifting.{Lifting};
+ghost use Rattle.no_types.specs.declared.lifted.Lifted.{Lifted};
+ghost use Rattle.no_types.specs.Lifting.{lift_all, Parted};
+ghost use Rattle.no_types.specs.Lifted.{Lifts};
+ghost use Rattle.no_formed.specs.Named.{IsTyped, meaning_in};
 
 /// The module that the forms of a text give is formed, where its named types are: each width, constant, case, alignment and
 /// number of it is in its range, and void stands only where it may. In a source no instruction and no function has a mark of
@@ -17,5 +22,7 @@ ghost use Rattle.no_formed.specs.Named.{IsTyped};
 pub fn what_is_read_is_formed()
     ensures types { (m : Meaning) (depth : ℕ) (s t : Unit {0}) (used : List Token) (a : Ty) → (a_type m depth).means s used a t → type_formed (length m.named) a ≡ true }
     ensures modules { (m : Meaning) (role : Role) (types : List (List ℕ × Ty)) (tokens : List Token) (found : Module) → IsModuleOf m role types tokens found → IsTyped m types tokens → IsFormed found }
+    // Names mean that, where a text's type definitions are those that were lifted out of it: `definitions_are_exact` says so.
+    ensures typed { ((m : Meaning) (names : List (List ℕ)) (tokens : List Token) (l : Lifting) → lift_all m names tokens ≡ Ok l → Parted m names tokens l) → (text : List ℕ) (tokens : List Token) (x : Lifted) → Lifts text tokens (Ok x) → IsTyped (meaning_in text x) (zip x.named x.types) x.rest }
     ensures marks { (m : Meaning) (role : Role) (types : List (List ℕ × Ty)) (tokens : List Token) (found : Module) → IsModuleOf m role types tokens found → IsTyped m types tokens → MarksAllowed role found }
 {}
