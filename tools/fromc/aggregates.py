@@ -155,6 +155,8 @@ class Function:
             return None
         test, *given = parted(it[3]) if it[2] == "select" else ["", it[3]]
         kind = operand(given[0])[0]
+        if not is_group(kind):
+            return None
         sides = [self.values(kind, operand(side)[1]) for side in given]
         made = []
         for k, (each, name) in enumerate(zip(elements(kind), self.values(kind, it[1]))):
