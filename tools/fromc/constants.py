@@ -4,9 +4,7 @@ import itertools, re
 from text import ATTACHED, LABEL, NAME, closing, functions, parted
 
 FLAGS = r"(?:(?:inbounds|nusw|nuw|nsw|exact|disjoint) |inrange\([^)]*\) )*"
-PLAIN = re.compile(rf"\b(add|sub|mul|shl|lshr|ashr|and|or|xor|trunc|zext|sext|bitcast|icmp \w+|select) ({FLAGS})\(")
-ADDRESS = re.compile(rf"\bgetelementptr ({FLAGS})\(")
-ANY = re.compile(rf"\b(add|sub|mul|shl|lshr|ashr|and|or|xor|trunc|zext|sext|bitcast|icmp \w+|select|getelementptr) ({FLAGS})\(")
+ANY = re.compile(rf"\b(add|sub|mul|shl|lshr|ashr|and|or|xor|trunc|zext|sext|bitcast|icmp \w+|select|ptrtoint|inttoptr|getelementptr) ({FLAGS})\(")
 
 
 def left_out(text):
@@ -14,14 +12,18 @@ def left_out(text):
     for it in ANY.finditer(text):
         end = closing(text, it.end() - 1)
         inside = text[it.end() : end]
-        if it[1] != "getelementptr" or ANY.search(inside) or re.search(r"\b(inttoptr|ptrtoint) \(", inside):
+        if it[1] == "ptrtoint":
+            # The address may stand inside another object, and no deeper.
+            if left_out(inside):
+                return it, end
+        elif it[1] not in ("inttoptr", "getelementptr") or ANY.search(inside):
             return it, end
     return None
 
 
 def hoisted(line, fresh):
     """The line, behind instructions for its constant expressions that are left out. A phi keeps them; `at_edges` is for it."""
-    if "(" not in line or " phi " in line or not line.startswith("  ") or not (PLAIN.search(line) or line.count("getelementptr") > 1 or ADDRESS.search(line)):
+    if "(" not in line or " phi " in line or not line.startswith("  "):
         return [line]
     indent = line[: len(line) - len(line.lstrip())]
     found = left_out(line)
@@ -31,7 +33,7 @@ def hoisted(line, fresh):
     name = fresh("constant")
     inside = line[it.end() : end]
     words = re.sub(r"inrange\([^)]*\) ", "", it[2])
-    if it[1] not in ("getelementptr", "trunc", "zext", "sext", "bitcast", "select"):
+    if it[1] not in ("getelementptr", "trunc", "zext", "sext", "bitcast", "select", "ptrtoint", "inttoptr"):
         a, b = parted(inside)
         inside = f"{a}, {b.split(' ', 1)[1]}"
     made = f"{indent}{name} = {it[1]} {words}{inside}"
