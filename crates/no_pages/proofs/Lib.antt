@@ -1,0 +1,13 @@
+pub mod Access
+pub mod First
+pub mod Joins
+pub mod Laying
+pub mod Making
+pub mod Owned
+pub mod Paged
+pub mod Puts
+pub mod Slots
+pub mod Tries
+pub mod Supplied
+pub mod Fresh
+pub mod Zeros

@@ -1,0 +1,15 @@
+use Rattle.std.proofs.Common.{◌≡◌, ◌∙◌, ◌+◌, ◌-◌, ◌/◌, ◌%◌, ℕ, List, length, take, drop, ap, sym, arith}
+use Rattle.no_pages.specs.Table.{list_at}
+use Rattle.no_pages.proofs.Paged.{read_from}
+use Rattle.no_pages.proofs.table.PageTable.get_in_page.Goals as goal
+
+pub returns : goal.returns
+returns c =
+    let o = c.args.addr % 4096 in
+    let n = length c.args.into.now in
+    let len : length c.bytes-bytes.result.now ≡ 4096 = omega arith in
+    let count : o + n - o ≡ n = omega arith in
+    c.copy_from_slice.ensures.after
+    ∙ ap (λ (k : ℕ). take k (drop o c.bytes-bytes.result.now)) count
+    ∙ ap (λ (l : List ℕ). take n (drop o l)) c.bytes-bytes.ensures
+    ∙ sym (read_from (list_at c.args.self.now) (c.args.addr / 4096) o n c.args.addr (omega arith) c.requires.fits (ap length (sym c.bytes-bytes.ensures) ∙ len))

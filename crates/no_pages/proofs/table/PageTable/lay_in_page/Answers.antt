@@ -1,0 +1,22 @@
+use Rattle.no_pages.proofs.Puts.{laid_bytes, laid_dirty, laid_held, laid_own}
+use Rattle.no_pages.proofs.table.PageTable.lay_in_page.Goals as goal
+
+pub returns-clause-bytes : goal.returns-clause-bytes
+returns-clause-bytes c =
+    let t = c.args.self.now in
+    laid_bytes t.zeros.value t.slots.items c.args.addr c.args.bytes.now c.requires.own c.requires.fits c.index_mut.result.now c.index_mut.ensures.value c.lay.new.self c.lay.ensures
+
+pub returns-clause-dirty : goal.returns-clause-dirty
+returns-clause-dirty c =
+    let t = c.args.self.now in
+    laid_dirty t.zeros.value t.slots.items c.args.addr c.args.bytes.now c.requires.own c.requires.fits c.index_mut.result.now c.index_mut.ensures.value c.lay.new.self c.lay.ensures
+
+pub returns-clause-held : goal.returns-clause-held
+returns-clause-held c =
+    let t = c.args.self.now in
+    laid_held t.zeros.value t.slots.items c.args.addr c.args.bytes.now c.requires.own c.requires.fits c.index_mut.result.now c.index_mut.ensures.value c.lay.new.self c.lay.ensures
+
+pub returns-clause-own : goal.returns-clause-own
+returns-clause-own c =
+    let t = c.args.self.now in
+    laid_own t.zeros.value t.slots.items c.args.addr c.args.bytes.now c.requires.own c.requires.fits c.index_mut.result.now c.index_mut.ensures.value c.lay.new.self c.lay.ensures
