@@ -7,25 +7,25 @@ use Rattle.no_ports.proofs.Adding.{adds_then, adds_nothing}
 use Rattle.no_ir.specs.declared.ending.End.{End}
 use Rattle.no_ir.specs.declared.function.Role.{Role}
 use Rattle.no_ir.specs.declared.function.Role.TheVariants.{Source, Part}
-use Rattle.no_flat.specs.FlatBytes.{byte_of, regions_of}
+use Rattle.no_pages.specs.Table.{byte_of, regions_of}
 use Rattle.no_machine.specs.Counted.{Counted, counted}
 use Rattle.no_machine.specs.Running.{Does, count_of, budget_of, end_of}
 use Rattle.no_semantics.specs.Accepted.{Accepted}
 use Rattle.no_semantics.specs.Run.{Ran, ended, following}
-use Rattle.no_app.specs.Jobs.{Flat, rest, report_alone}
+use Rattle.no_app.specs.Jobs.{Local, rest, report_alone}
 
 pub following_twice : (xs ys : List ℕ) (m n : ℕ) (r : Ran) → following xs m (following ys n r) ≡ following (xs ++ ys) (m + n) r
 following_twice xs ys m n r = rw (append_assoc xs ys r.output, add_assoc m n r.count) refl
 
 -- a machine that is some way into a run, of which all bytes so far were written
-pub record So (a : Accepted) (whole : Ran) (budget : ℕ) (r : Flat) (before now : Option (List ℕ)) : Type 0 where
+pub record So (a : Accepted) (whole : Ran) (budget : ℕ) (r : Local) (before now : Option (List ℕ)) : Type 0 where
   pub bytes : List ℕ
   pub ran : whole ≡ following bytes (count_of r) (rest a r)
   pub wrote : Adds before now bytes
   pub within : count_of r ≤ budget_of r
   pub limit : budget_of r ≡ budget
 
-pub so_start : (a : Accepted) (whole : Ran) (budget : ℕ) (r : Flat) (held : Option (List ℕ))
+pub so_start : (a : Accepted) (whole : Ran) (budget : ℕ) (r : Local) (held : Option (List ℕ))
     → rest a r ≡ whole → count_of r ≡ 0 → budget_of r ≡ budget → So a whole budget r held held
 so_start a whole budget r held is none limit = record {
   bytes = [];
@@ -39,7 +39,7 @@ so_start a whole budget r held is none limit = record {
     zeroed q = ap (λ (k : ℕ). record { output = q.output; count = k; end = q.end }) (omega arith)
 
 -- more work, and its bytes written
-pub so_more : (a : Accepted) (whole : Ran) (budget : ℕ) (r r' : Flat) (before now after : Option (List ℕ)) (held buffer : List ℕ)
+pub so_more : (a : Accepted) (whole : Ran) (budget : ℕ) (r r' : Local) (before now after : Option (List ℕ)) (held buffer : List ℕ)
     → So a whole budget r before now → held ≡ [] → Does regions_of byte_of a r r' held buffer → Adds now after buffer → So a whole budget r' before after
 so_more a whole budget r r' before now after held buffer so empty does wrote =
     let buffer_is : buffer ≡ does.bytes = rw empty at does.wrote in
@@ -57,7 +57,7 @@ so_more a whole budget r r' before now after held buffer so empty does wrote =
 pub prefix_of : (xs ys zs : List ℕ) (n : ℕ) → n ≤ length ys → take (length xs + n) (xs ++ (ys ++ zs)) ≡ xs ++ take n ys
 prefix_of xs ys zs n h = take-append-add xs (ys ++ zs) n ∙ ap (λ (l : List ℕ). xs ++ l) (take-append-le n ys zs h)
 
-pub so_prefix : (a : Accepted) (whole : Ran) (budget : ℕ) (r r' : Flat) (before now after : Option (List ℕ)) (held buffer : List ℕ)
+pub so_prefix : (a : Accepted) (whole : Ran) (budget : ℕ) (r r' : Local) (before now after : Option (List ℕ)) (held buffer : List ℕ)
     → So a whole budget r before now → held ≡ [] → Does regions_of byte_of a r r' held buffer → AddsPrefix now after buffer → AddsPrefix before after whole.output
 so_prefix a whole budget r r' before now after held buffer so empty does wrote =
     let buffer_is : buffer ≡ does.bytes = rw empty at does.wrote in
@@ -74,7 +74,7 @@ so_prefix a whole budget r r' before now after held buffer so empty does wrote =
     )
 
 -- all was written so far
-pub so_so_far : (a : Accepted) (whole : Ran) (budget : ℕ) (r : Flat) (before now : Option (List ℕ)) → So a whole budget r before now → AddsPrefix before now whole.output
+pub so_so_far : (a : Accepted) (whole : Ran) (budget : ℕ) (r : Local) (before now : Option (List ℕ)) → So a whole budget r before now → AddsPrefix before now whole.output
 so_so_far a whole budget r before now so =
     let more : List ℕ = (rest a r).output in
     let output : whole.output ≡ so.bytes ++ more = ap (λ (q : Ran). q.output) so.ran in (
@@ -85,7 +85,7 @@ so_so_far a whole budget r before now so =
     )
 
 -- the run is over
-pub so_whole : (a : Accepted) (whole : Ran) (budget : ℕ) (r : Flat) (before now : Option (List ℕ)) (e : End) → So a whole budget r before now → end_of r ≡ Some e
+pub so_whole : (a : Accepted) (whole : Ran) (budget : ℕ) (r : Local) (before now : Option (List ℕ)) (e : End) → So a whole budget r before now → end_of r ≡ Some e
     → (bytes : List ℕ) × (whole ≡ record { output = bytes; count = count_of r; end = e }) × Adds before now bytes
 so_whole a whole budget r before now e so over =
     let last : rest a r ≡ ended e = rw over refl in (
@@ -97,7 +97,7 @@ so_whole a whole budget r before now e so over =
     plainly : (xs : List ℕ) → following xs (count_of r) (ended e) ≡ record { output = xs; count = count_of r; end = e }
     plainly xs = rw (append-nil xs, add-zero (count_of r)) refl
 
-pub so_end : (a : Accepted) (whole : Ran) (budget : ℕ) (r : Flat) (before now : Option (List ℕ)) (e : End) → So a whole budget r before now → end_of r ≡ Some e
+pub so_end : (a : Accepted) (whole : Ran) (budget : ℕ) (r : Local) (before now : Option (List ℕ)) (e : End) → So a whole budget r before now → end_of r ≡ Some e
     → (e ≡ whole.end) × (report_alone (count_of r) ≡ report_alone whole.count) × Adds before now whole.output
 so_end a whole budget r before now e so over =
     let all = so_whole a whole budget r before now e so over in (
@@ -107,7 +107,7 @@ so_end a whole budget r before now e so over =
     )
 
 -- what was counted so far is part of the run's count
-pub so_counted : (a : Accepted) (whole : Ran) (budget : ℕ) (r : Flat) (before now : Option (List ℕ)) → So a whole budget r before now → count_of r ≤ whole.count
+pub so_counted : (a : Accepted) (whole : Ran) (budget : ℕ) (r : Local) (before now : Option (List ℕ)) → So a whole budget r before now → count_of r ≤ whole.count
 so_counted a whole budget r before now so = rw so.ran (omega arith)
 
 pub rose_later : (a b c : ℕ) → a ≤ b → Rose b c → Rose a c

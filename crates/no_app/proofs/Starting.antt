@@ -4,8 +4,8 @@ use Rattle.std.specs.Prelude.{IfOk}
 use Rattle.no_ir.specs.declared.ending.End.{End}
 use Rattle.no_ir.specs.declared.memory.NoMemory.{NoMemory}
 use Rattle.no_layout.specs.declared.memory.Regions.{Regions}
-use Rattle.no_flat.specs.declared.flat.FlatMemory.{FlatMemory}
-use Rattle.no_flat.specs.FlatBytes.{byte_of, regions_of}
+use Rattle.no_pages.specs.declared.table.PageTable.{PageTable}
+use Rattle.no_pages.specs.Table.{byte_of, regions_of}
 use Rattle.no_machine.specs.Running as machine
 use Rattle.no_semantics.specs.Accepted.{Accepted}
 use Rattle.no_semantics.specs.First.{program_of, first_byte}
@@ -13,7 +13,7 @@ use Rattle.no_semantics.specs.Image as image
 use Rattle.no_semantics.specs.Run.{run, run_from}
 use Rattle.no_semantics.specs.State.{State, start}
 use Rattle.no_semantics.specs.Values.{Program}
-use Rattle.no_app.specs.Jobs.{Flat, IsAtStart}
+use Rattle.no_app.specs.Jobs.{Local, IsAtStart}
 
 pub run_is : (a : Accepted) (input : List ℕ) (n : ℕ) → run a input n ≡ run_from (program_of a) n (start a.«module» (first_byte a))
 unfolding run
@@ -23,7 +23,7 @@ run_is a input n = refl
 abbrev pub placed : Accepted → List ℕ → Regions → Program
 placed a addresses regions = record { «module» = a.«module»; layout = a.layout; sizes = a.sizes; addresses = addresses; regions = regions }
 
-pub at_start : (a : Accepted) (addresses : List ℕ) (mem : FlatMemory) (budget : ℕ) (m : Flat) (input : List ℕ)
+pub at_start : (a : Accepted) (addresses : List ℕ) (mem : PageTable) (budget : ℕ) (m : Local) (input : List ℕ)
     → machine.IsBooted byte_of a addresses mem budget m
     → addresses ≡ image.addresses_of a.layout a.sizes a.«module».globals
     → regions_of mem ≡ image.regions_of a.layout a.sizes a.«module».globals
@@ -48,7 +48,7 @@ at_start a addresses mem budget m input booted places ends bytes = record {
         ap (λ (xs : List ℕ). placed a xs (regions_of (machine.memory_of m))) (booted.addresses_kept ∙ places)
         ∙ ap (λ (r : Regions). placed a (image.addresses_of a.layout a.sizes a.«module».globals) r) (ap regions_of booted.memory ∙ ends)
 
-pub started : (a : Accepted) (addresses : List ℕ) (mem : FlatMemory) (budget : ℕ) (r : Result Flat NoMemory)
+pub started : (a : Accepted) (addresses : List ℕ) (mem : PageTable) (budget : ℕ) (r : Result Local NoMemory)
     → IfOk r (λ m. machine.IsBooted byte_of a addresses mem budget m)
     → addresses ≡ image.addresses_of a.layout a.sizes a.«module».globals
     → regions_of mem ≡ image.regions_of a.layout a.sizes a.«module».globals

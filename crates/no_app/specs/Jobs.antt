@@ -1,8 +1,8 @@
 -- What a job says of its run.
 use Rattle.std.specs.Prelude.{◌≡◌, ℕ, ◌+◌, ◌≤◌, List, Option, Some, None, unwrap_or, []}
 use Rattle.no_ports.specs.Meanings.{Adds, AddsPrefix}
-use Rattle.no_flat.specs.declared.flat.FlatMemory.{FlatMemory}
-use Rattle.no_flat.specs.FlatBytes.{byte_of, regions_of}
+use Rattle.no_pages.specs.declared.table.PageTable.{PageTable}
+use Rattle.no_pages.specs.Table.{byte_of, regions_of}
 use Rattle.no_machine.specs.Counted.{Counted}
 use Rattle.no_machine.specs.Running.{rest_of, count_of, budget_of, end_of}
 use Rattle.no_machine.specs.declared.machine.Machine.{Machine}
@@ -47,21 +47,21 @@ input_of left = unwrap_or left []
 
 -- ---- a machine over a memory with all its pages
 
-abbrev pub Flat : Type 0
-Flat = Machine FlatMemory
+abbrev pub Local : Type 0
+Local = Machine PageTable
 
 -- what is left of its run
-abbrev pub rest : Accepted → Flat → Ran
+abbrev pub rest : Accepted → Local → Ran
 rest a m = rest_of regions_of byte_of a m
 
 -- at the beginning of a run
-pub record IsAtStart (a : Accepted) (input : List ℕ) (budget : ℕ) (m : Flat) : Type 0 where
+pub record IsAtStart (a : Accepted) (input : List ℕ) (budget : ℕ) (m : Local) : Type 0 where
   pub whole : rest a m ≡ run a input budget
   pub counted_none : count_of m ≡ 0
   pub limit : budget_of m ≡ budget
 
 -- what a slice of work came to
-abbrev pub Works : Worked → Flat → Flat → Type 0
+abbrev pub Works : Worked → Local → Local → Type 0
 Works worked.Working old new = count_of old + 1 ≤ count_of new
 Works (worked.Ended e) old new = end_of new ≡ Some e
 Works worked.NoMemory old new = Unit {0}

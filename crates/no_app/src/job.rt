@@ -1,5 +1,5 @@
 ghost use Rattle.std.specs.Prelude.{ℕ, List, ◌≡◌, ◌-◌, ◌^◌, ◌≤◌, IfOk, true};
-ghost use Rattle.no_flat.specs.FlatBytes.{byte_of, regions_of};
+ghost use Rattle.no_pages.specs.Table.{byte_of, regions_of};
 ghost use Rattle.no_image.specs.Fits.{has_image};
 ghost use Rattle.no_ir.specs.declared.function.Role.TheVariants.{Source};
 ghost use Rattle.no_machine.specs.Counted.{counted};
@@ -9,7 +9,7 @@ ghost use Rattle.no_semantics.specs.Run.{run};
 ghost use Rattle.no_app.specs.Jobs.{Counts, IsAtStart, IsRunOf, Works, input_of, report_alone};
 
 use crate::report::Report;
-use no_flat::FlatMemory;
+use no_pages::PageTable;
 use no_image::{image, load};
 use no_ir::{End, NoMemory};
 use no_machine::{Machine, StepAnswer, Steps};
@@ -41,7 +41,7 @@ pub(crate) enum Worked {
 
 /// Does instructions until so many are done, or the run has ended.
 fn work<L: Ledger>(
-    machine: &mut Machine<FlatMemory>,
+    machine: &mut Machine<PageTable>,
     sound: &Sound,
     out: &mut Vec<u8>,
     steps: &mut Steps<L>,
@@ -64,7 +64,7 @@ fn work<L: Ledger>(
 }
 
 /// A machine at the entry of `main`, over the program's first memory.
-fn booted(alloc: Global, sound: &Sound, budget: u64) -> Result<Machine<FlatMemory>, NoMemory>
+fn booted(alloc: Global, sound: &Sound, budget: u64) -> Result<Machine<PageTable>, NoMemory>
     requires source { sound.now.role ≡ Source }
     requires fits { has_image sound.now.«module» sound.now.layout sound.now.sizes ≡ true }
     ensures { (input : List ℕ) → IfOk result (λ m. IsAtStart sound.now input budget m) }

@@ -11,9 +11,7 @@ use Rattle.no_ir.specs.declared.constant.Const.TheVariants as const
 use Rattle.no_ir.specs.declared.types.Ty.{Ty}
 use Rattle.no_ir.specs.declared.function.GlobalVar.{GlobalVar}
 use Rattle.no_ir.specs.declared.function.Module.{Module}
-use Rattle.no_flat.specs.Flat.{IsInRegion}
-use Rattle.no_flat.specs.declared.region.Region.TheVariants.{Constants, Globals}
-use Rattle.no_layout.specs.Memory.{AreFormed, constants_start, globals_limit, within, written}
+use Rattle.no_layout.specs.Memory.{AreFormed, constants_start, globals_limit, globals_start, in_constants, within, written}
 use Rattle.no_layout.specs.Sizes.{type_size}
 use Rattle.no_layout.specs.Text.{is_formed}
 use Rattle.no_layout.specs.declared.extent.Extent.{Extent}
@@ -24,7 +22,7 @@ use Rattle.no_semantics.specs.First.{constant_bytes, first_of, program_of}
 use Rattle.no_semantics.specs.Image.{address_behind, addresses_behind, constants_end_of, end_of, end_with, global_align, globals_start_of, place_behind, regions_of, same_kind, start_of}
 use Rattle.no_semantics.specs.Sound.{align_fits, table_holds, type_fits}
 use Rattle.no_image.specs.Fits.{global_fits, globals_fit, has_image, image_fits, init_fits, inits_fit}
-use Rattle.no_image.specs.Pieces.{AreInside, over}
+use Rattle.no_image.specs.Pieces.{AreInside, IsInRegion, over}
 use Rattle.no_image.proofs.Lengths.{constant_length}
 use Rattle.no_image.proofs.Placed.{ends_low, grows, own_kind}
 
@@ -73,6 +71,16 @@ module _ (r : Regions) where
   inside_at [] k x all lt is = absurd (omega arith)
   inside_at (y ∷ xs) zero x all lt is = subst (λ (z : ℕ × List ℕ). IsInRegion r z.0 (length z.1)) (sym is) all.0
   inside_at (y ∷ xs) (suc k) x all lt is = inside_at xs k x all.1 (omega arith) is
+
+-- bytes of the constants, and of the globals, lie in one region
+in_constants_is : (r : Regions) (at n : ℕ) → in_constants r at n ≡ true → IsInRegion r at n
+in_constants_is r at n e = rw e refl
+
+in_globals_is : (r : Regions) (at n : ℕ) → within (globals_start r) r.globals_end at n ≡ true → IsInRegion r at n
+in_globals_is r at n e = elim (cases_Bool (in_constants r at n)) [
+  | inl constants ↦ in_constants_is r at n constants
+  | inr not_constants ↦ rw (not_constants, e) refl
+]
 
 -- ---- places of globals
 
@@ -228,8 +236,8 @@ module _ (a : Accepted) (formed : IsTrue (is_formed a.layout)) (holds : table_ho
 
     region_of : (c : Bool) (at n : ℕ) → g.constant ≡ c → start_of a.layout a.sizes a.«module».globals c ≤ at → at + n ≤ end_behind c a.«module».globals
         → IsInRegion (regions_of a.layout a.sizes a.«module».globals) at n
-    region_of true at n is low high = (Constants, and_from _ _ (le-leb constants_start at low) (le-leb (at + n) (constants_end_of a.layout a.sizes a.«module».globals) high))
-    region_of false at n is low high = (Globals, and_from _ _ (le-leb (globals_start_of a.layout a.sizes a.«module».globals) at low) (le-leb (at + n) (end_behind false a.«module».globals) high))
+    region_of true at n is low high = in_constants_is (regions_of a.layout a.sizes a.«module».globals) at n (and_from _ _ (le-leb constants_start at low) (le-leb (at + n) (constants_end_of a.layout a.sizes a.«module».globals) high))
+    region_of false at n is low high = in_globals_is (regions_of a.layout a.sizes a.«module».globals) at n (and_from _ _ (le-leb (globals_start_of a.layout a.sizes a.«module».globals) at low) (le-leb (at + n) (end_behind false a.«module».globals) high))
 
     -- it lies in its region
     pub piece_inside : (at : ℕ) (bytes : List ℕ) → at ≡ address_of (take k a.«module».globals) g → bytes ≡ constant_bytes (program_of a) g.init g.ty

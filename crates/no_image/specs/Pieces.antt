@@ -1,7 +1,6 @@
 -- Images: pieces of bytes over zeros.
-use Rattle.std.specs.Prelude.{◌≡◌, ℕ, List, [], ◌∷◌, length}
-use Rattle.no_flat.specs.Flat.{IsInRegion}
-use Rattle.no_layout.specs.Memory.{AreFormed, written}
+use Rattle.std.specs.Prelude.{◌≡◌, ℕ, false, List, [], ◌∷◌, length, None}
+use Rattle.no_layout.specs.Memory.{AreFormed, refusal, written}
 use Rattle.no_layout.specs.declared.memory.Regions.{Regions}
 use Rattle.no_semantics.specs.Accepted.{Accepted}
 use Rattle.no_semantics.specs.First.{first_byte, program_of}
@@ -15,6 +14,10 @@ over (piece ∷ more) byte = written (over more byte) piece.0 piece.1
 -- a memory of zeros with them
 abbrev pub placed : List (ℕ × List ℕ) → ℕ → ℕ
 placed pieces = over pieces (λ a. 0)
+
+-- n bytes from an address on lie in one region
+abbrev pub IsInRegion : Regions → ℕ → ℕ → Type 0
+IsInRegion r at n = refusal r false at n ≡ None
 
 -- each piece lies in one region
 abbrev pub AreInside : Regions → List (ℕ × List ℕ) → Type 0

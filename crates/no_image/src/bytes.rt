@@ -4,7 +4,7 @@ ghost use Rattle.no_semantics.specs.First.{number_bytes, program_of};
 ghost use Rattle.no_semantics.specs.Sound.{is_scalar};
 
 use no_ir::{NoMemory, Ty};
-use no_layout::put_number;
+use no_layout::{Width, put_number};
 use no_semantics::{Sound, bytes_of, narrowed, width_at};
 
 /// Zeros behind the bytes, up to a length.
@@ -33,7 +33,7 @@ fn put_sized(out: &mut Vec<u8>, big: bool, size: usize, n: u64) -> Result<(), No
 {
     let mut buffer = [0; 8];
     let bytes = &mut buffer[..size];
-    put_number(big, n, bytes);
+    put_number(big, Width::of(size), n, bytes);
     append(out, bytes)
 }
 

@@ -4,7 +4,7 @@ ghost use Rattle.no_layout.specs.Orders.{IsWidth};
 ghost use Rattle.no_machine.specs.Numbers.{IsFetched, IsStored};
 
 use no_ir::Trap;
-use no_layout::{Loaded, Memory, load, store};
+use no_layout::{Loaded, Memory, Stored, Width};
 
 /// What reading a number gave.
 #[derive(Clone, Copy, Debug, PartialEq, Eq)]
@@ -31,7 +31,7 @@ pub(crate) fn fetch<M: Memory>(mem: &M, big: bool, at: u64, size: usize) -> Fetc
     requires { IsWidth size }
     ensures { IsFetched result (refusal (M.regions mem.now) false at size) (M.held mem.now) (read_number big (M.byte mem.now) at size) }
 {
-    match load(mem, big, at, size) {
+    match mem.load(big, Width::of(size), at) {
         Loaded::Value(n) => Fetched::Value(n),
         Loaded::Missing(page) => Fetched::Missing(page),
         Loaded::Refused(trap) => Fetched::Refused(trap),
@@ -47,10 +47,10 @@ pub(crate) fn put_number<M: Memory>(mem: &mut M, big: bool, at: u64, size: usize
     ensures regions { M.regions mem.new ≡ M.regions mem.old }
     ensures held { M.held mem.new ≡ M.held mem.old }
 {
-    match store(mem, big, at, size, n) {
-        no_layout::Stored::Done => Put::Done,
-        no_layout::Stored::Missing(page) => Put::Missing(page),
-        no_layout::Stored::Refused(trap) => Put::Refused(trap),
-        no_layout::Stored::NoMemory => Put::NoMemory,
+    match mem.store(big, Width::of(size), at, n) {
+        Stored::Done => Put::Done,
+        Stored::Missing(page) => Put::Missing(page),
+        Stored::Refused(trap) => Put::Refused(trap),
+        Stored::NoMemory => Put::NoMemory,
     }
 }

@@ -1,6 +1,5 @@
 -- Bytes by pages.
-use Rattle.std.specs.Prelude.{◌≡◌, ℕ, ◌+◌, ◌-◌, ◌/◌, ◌%◌, ◌≤◌, Bool, true, List, slice_index, get_or}
-use Rattle.no_layout.specs.Memory.{page_of}
+use Rattle.std.specs.Prelude.{ℕ, ◌/◌, ◌%◌, Bool, List, slice_index, get_or}
 use Rattle.no_pages.specs.declared.slot.Slot.{Slot}
 use Rattle.no_pages.specs.Slot.{is_held, is_own, list_of, nothing}
 

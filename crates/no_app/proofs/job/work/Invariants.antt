@@ -1,5 +1,5 @@
 use Rattle.std.proofs.Common.{◌≡◌, ◌+◌, ◌-◌, ◌≤◌}
-use Rattle.no_flat.specs.FlatBytes.{byte_of, regions_of}
+use Rattle.no_pages.specs.Table.{byte_of, regions_of}
 use Rattle.no_machine.specs.Counted.{counted}
 use Rattle.no_machine.specs.Running.{Does, count_of}
 use Rattle.no_app.proofs.job.work.Given as goal

@@ -1,4 +1,4 @@
-use Rattle.std.proofs.Common.{◌≡◌, ◌+◌, ◌-◌, ◌%◌, ◌∙◌, ℕ, List, take, drop, sym, ap, arith}
+use Rattle.std.proofs.Common.{◌≡◌, ◌+◌, ◌-◌, ◌∙◌, ℕ, List, take, drop, sym, ap, arith}
 use Rattle.no_layout.specs.Orders.{little_of}
 use Rattle.no_pages.proofs.Zeros.{not_zeros, zeros_more}
 use Rattle.no_pages.proofs.zero.is_zero.Goals as goal

@@ -1,4 +1,4 @@
-use Rattle.std.proofs.Common.{◌≡◌, ◌≢◌, ◌∙◌, ◌+◌, ◌≤◌, ◌<◌, ℕ, Bool, List, Option, None, Box, Global, length, get_or, sym, subst, ap, arith}
+use Rattle.std.proofs.Common.{◌≡◌, ◌∙◌, ◌<◌, ℕ, Bool, List, Option, None, Box, Global, length, get_or, sym, subst, ap, arith}
 use Rattle.std.proofs.lemmas.List.{get_or_default, get_or-set_other, get_or_past, length-set}
 use Rattle.no_pages.specs.Held.{IsHeld}
 use Rattle.no_pages.specs.Keeping.{bytes_of, kept_in}

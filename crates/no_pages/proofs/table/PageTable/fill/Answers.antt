@@ -1,4 +1,4 @@
-use Rattle.std.proofs.Common.{◌∙◌, ◌+◌, ◌-◌, ◌/◌, ◌<◌, ◌≤◌, ℕ, Bool, length, take, drop, ap, arith}
+use Rattle.std.proofs.Common.{◌∙◌, ◌+◌, ◌-◌, ◌/◌, ◌≤◌, ℕ, Bool, length, take, drop, ap, arith}
 use Rattle.no_layout.specs.Memory.{written}
 use Rattle.no_pages.specs.Table.{byte_of}
 use Rattle.no_pages.proofs.Joins.{write_next}
