@@ -35,11 +35,12 @@ fn stores(memory: &mut PageTable, big: bool, start: u64, mask: u64, turns: u64) 
     done
 }
 
-/// Whether a page is zero, many times over.
-fn zeros(memory: &PageTable, turns: u64) -> u64 {
+/// Whether a page is zero, many times over, for 256 pages of zeros.
+fn zeros(memory: &mut PageTable, turns: u64) -> u64 {
+    let _zeros = memory.set(HEAP.wrapping_add(0x10_0000), 0x10_0000, 0);
     let mut sum: u64 = 0;
     for turn in 0..turns {
-        let page = 0x1_0000 + (turn % 256) as u32;
+        let page = 0x1_0100 + (turn % 256) as u32;
         if memory.holds(page) && is_zero(memory.page(page)) {
             sum = sum.wrapping_add(1);
         }
@@ -47,17 +48,22 @@ fn zeros(memory: &PageTable, turns: u64) -> u64 {
     sum
 }
 
-/// Pages of 4,096 bytes copied from one part of the heap to another.
+/// Copies 4,096 bytes from one part of the heap to another, across two pages.
+fn copy(memory: &mut PageTable, buffer: &mut [u8; 4096], at: u64) -> u64 {
+    let _got = memory.get(HEAP.wrapping_add(at), &mut buffer[..]);
+    match memory.put(HEAP.wrapping_add(at).wrapping_add(0x10_0800), &buffer[..]) {
+        Stored::Done => 1,
+        _ => 0,
+    }
+}
+
+/// Such copies, many times over.
 fn copies(memory: &mut PageTable, turns: u64) -> u64 {
     let mut buffer = [0; 4096];
     let mut done: u64 = 0;
     for turn in 0..turns {
         let at = (turn % 64).wrapping_mul(4096);
-        let _got = memory.get(HEAP.wrapping_add(at), buffer.as_mut_slice());
-        match memory.put(HEAP.wrapping_add(at).wrapping_add(0x10_0800), buffer.as_slice()) {
-            Stored::Done => done = done.wrapping_add(1),
-            _ => {}
-        }
+        done = done.wrapping_add(copy(memory, &mut buffer, at));
     }
     done
 }
