@@ -17,7 +17,7 @@ for crate in no_ir no_layout no_pages; do
 done
 grep -E '^no_(ir|layout|pages):' crates.txt >"$folder/crates.txt"
 echo 'pages_bench: no_ir no_layout no_pages' >>"$folder/crates.txt"
-cp bench/pages/main.rt "$folder/crates/pages_bench/src/"
+cp bench/pages/program.txt "$folder/crates/pages_bench/src/main.rt"
 clang -O1 -o "$folder/loop" bench/pages/loop.c
 (cd "$folder/crates/pages_bench" && rt run -- make 0 >/dev/null 2>&1)
 python3 - "$folder/crates/pages_bench/out/pages_bench" "$folder/loop" <<'PYTHON'
