@@ -8,3 +8,14 @@ pub mod State
 pub mod Step
 pub mod First
 pub mod Run
+pub mod Registers
+pub mod Results
+pub mod States
+pub mod Rows
+pub mod Control
+pub mod Access
+pub mod Effects
+pub mod Externals
+pub mod Taken
+pub mod Calls
+pub mod Acting
