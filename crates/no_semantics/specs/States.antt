@@ -2,6 +2,7 @@
 use Rattle.std.specs.Prelude.{ℕ, ◌+◌, List, [], ◌∷◌, slice_get, slice_set, Option, Some, None}
 use Rattle.no_ir.specs.declared.function.Block.{Block}
 use Rattle.no_ir.specs.declared.function.Function.{Function}
+use Rattle.no_ir.specs.declared.function.Module.{Module}
 use Rattle.no_ir.specs.declared.instruction.Instr.{Instr}
 use Rattle.no_heap.specs.declared.block.Block as heap'
 use Rattle.no_semantics.specs.Registers.{Registers, given}
@@ -29,8 +30,12 @@ pub record State : Type 0 where
 abbrev pub function_at : Program → ℕ → Option Function
 function_at p k = slice_get p.«module».functions k
 
+-- block b of function k
+abbrev pub block_in : Module → ℕ → ℕ → Option Block
+block_in m k b = given None (slice_get m.functions k) (λ (f : Function). slice_get f.blocks b)
+
 abbrev pub block_at : Program → ℕ → ℕ → Option Block
-block_at p k b = given None (function_at p k) (λ (f : Function). slice_get f.blocks b)
+block_at p k b = block_in p.«module» k b
 
 abbrev pub instr_at : Program → Frame → Option Instr
 instr_at p f = given None (block_at p f.function f.block) (λ (b : Block). slice_get b.instrs f.at)
