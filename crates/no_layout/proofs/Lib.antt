@@ -1,4 +1,5 @@
 pub mod Accesses
+pub mod Agreeing
 pub mod Fields
 pub mod Formed
 pub mod Left

@@ -6,13 +6,13 @@ use Rattle.std.proofs.lemmas.List.{length-append, length-take-le, length-drop, g
 use Rattle.std.proofs.Math.Seq.{drop-cons}
 use Rattle.no_layout.specs.Memory.{AreZero, read_bytes, splice, written}
 
-inside : (f : ℕ → ℕ) (s : ℕ) (xs : List ℕ) (a : ℕ) → s ≤ a → a < s + length xs → written f s xs a ≡ get_or xs (a - s) 0
+pub inside : (f : ℕ → ℕ) (s : ℕ) (xs : List ℕ) (a : ℕ) → s ≤ a → a < s + length xs → written f s xs a ≡ get_or xs (a - s) 0
 inside f s xs a low high = rw (le-leb s a low, lt-ltb a (s + length xs) high) refl
 
-below : (f : ℕ → ℕ) (s : ℕ) (xs : List ℕ) (a : ℕ) → a < s → written f s xs a ≡ f a
+pub below : (f : ℕ → ℕ) (s : ℕ) (xs : List ℕ) (a : ℕ) → a < s → written f s xs a ≡ f a
 below f s xs a h = rw (lt-leb s a h) refl
 
-above : (f : ℕ → ℕ) (s : ℕ) (xs : List ℕ) (a : ℕ) → s + length xs ≤ a → written f s xs a ≡ f a
+pub above : (f : ℕ → ℕ) (s : ℕ) (xs : List ℕ) (a : ℕ) → s + length xs ≤ a → written f s xs a ≡ f a
 above f s xs a h =
     let low : s ≤ a = omega arith in
     rw (le-leb s a low, le-ltb a (s + length xs) h) refl
@@ -51,18 +51,18 @@ module _ (xs : List ℕ) (o : ℕ) (bs : List ℕ) (fits : o + length bs ≤ len
       let middle = middle_length in
       omega (arith, whole, rest, middle)
 
-  splice_before : (k : ℕ) → k < o → get_or (splice xs o bs) k 0 ≡ get_or xs k 0
+  pub splice_before : (k : ℕ) → k < o → get_or (splice xs o bs) k 0 ≡ get_or xs k 0
   splice_before k lt =
       get_or_append_left (take o xs ++ bs) (drop (o + length bs) xs) 0 k (let m = middle_length in omega (arith, m))
       ∙ get_or_append_left (take o xs) bs 0 k (let m = front_length in omega (arith, m))
       ∙ get_or-take o xs k 0 lt
 
-  splice_within : (k : ℕ) → o ≤ k → k < o + length bs → get_or (splice xs o bs) k 0 ≡ get_or bs (k - o) 0
+  pub splice_within : (k : ℕ) → o ≤ k → k < o + length bs → get_or (splice xs o bs) k 0 ≡ get_or bs (k - o) 0
   splice_within k low high =
       get_or_append_left (take o xs ++ bs) (drop (o + length bs) xs) 0 k (let m = middle_length in omega (arith, m))
       ∙ get_or-append_right (take o xs) bs o k 0 front_length low
 
-  splice_behind : (k : ℕ) → o + length bs ≤ k → get_or (splice xs o bs) k 0 ≡ get_or xs k 0
+  pub splice_behind : (k : ℕ) → o + length bs ≤ k → get_or (splice xs o bs) k 0 ≡ get_or xs k 0
   splice_behind k low =
       let place : o + length bs + (k - (o + length bs)) ≡ k = omega arith in
       get_or-append_right (take o xs ++ bs) (drop (o + length bs) xs) (o + length bs) k 0 middle_length low

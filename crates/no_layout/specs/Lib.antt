@@ -9,3 +9,4 @@ pub mod Part
 pub mod Sizes
 pub mod Stated
 pub mod Text
+pub mod Width

@@ -1,5 +1,5 @@
 -- A program's memory: its regions, its pages, and what an access answers (docs/FORMATS.md, "Memory map").
-use Rattle.std.specs.Prelude.{◌≡◌, ℕ, zero, suc, ◌+◌, ◌-◌, ◌*◌, ◌/◌, ◌≤◌, Bool, true, ◌&&◌, ◌||◌, nat_le, nat_lt, if◌then◌else◌, List, [], ◌∷◌, ◌++◌, length, take, drop, slice_index, Option, Some, None}
+use Rattle.std.specs.Prelude.{◌≡◌, ℕ, zero, suc, ◌+◌, ◌-◌, ◌*◌, ◌/◌, ◌≤◌, Bool, true, false, ◌&&◌, ◌||◌, nat_eq, nat_le, nat_lt, if◌then◌else◌, List, [], ◌∷◌, ◌++◌, length, take, drop, slice_index, Option, Some, None}
 use Rattle.std.specs.Int.{next_multiple_of}
 use Rattle.no_ir.specs.declared.ending.Trap.{Trap}
 use Rattle.no_ir.specs.declared.ending.Trap.TheVariants.{BadAddress, ConstantWrite}
@@ -115,15 +115,21 @@ IsGot Done byte at old new = new ≡ read_bytes byte at (length old)
 IsGot (Missing page) byte at old new = new ≡ old
 IsGot (Refused trap) byte at old new = new ≡ old
 
--- what a write did: it writes only where it is done
-abbrev pub IsPut : Access → (ℕ → ℕ) → (ℕ → ℕ) → ℕ → List ℕ → Type 0
-IsPut Done old new at bytes = new ≡ written old at bytes
-IsPut (Missing page) old new at bytes = new ≡ old
-IsPut (Refused trap) old new at bytes = new ≡ old
+-- the page has a byte in a region
+abbrev pub IsPage : Regions → ℕ → Type 0
+IsPage r p = (at : ℕ) × (page_of at ≡ p) × (refusal r false at 1 ≡ None)
 
--- each page of n bytes that is present is ready to be written
-abbrev pub ArePrepared : (ℕ → Bool) → (ℕ → Bool) → ℕ → ℕ → Type 0
-ArePrepared held prepared at n = (p : ℕ) → page_of at ≤ p → p ≤ page_of (at + n - 1) → held p ≡ true → prepared p ≡ true
+-- the pages and this one
+abbrev pub also : (ℕ → Bool) → ℕ → ℕ → Bool
+also held n p = nat_eq p n || held p
+
+-- each page of n bytes has bytes of its own
+abbrev pub AreOwn : (ℕ → Bool) → ℕ → ℕ → Type 0
+AreOwn own at n = (p : ℕ) → page_of at ≤ p → p ≤ page_of (at + n - 1) → own p ≡ true
+
+-- a memory of pages agrees with a whole one: each page that it holds has that one's bytes
+abbrev pub Agrees : (ℕ → Bool) → (ℕ → ℕ) → (ℕ → ℕ) → Type 0
+Agrees held byte whole = (a : ℕ) → held (page_of a) ≡ true → byte a ≡ whole a
 
 -- ---- lists of bytes
 

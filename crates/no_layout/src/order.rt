@@ -1,6 +1,6 @@
 ghost use Rattle.std.specs.Prelude.{◌≡◌, ◌<◌, ◌^◌, ℕ, List, length, reverse};
 ghost use Rattle.std.specs.List.{All};
-ghost use Rattle.no_layout.specs.Orders.{IsWidth, big_of, bytes_of, little_of, number_of, swapped};
+ghost use Rattle.no_layout.specs.Orders.{IsWidth, big_of, little_of, swapped};
 
 use byteorder::{BigEndian, ByteOrder, LittleEndian};
 
@@ -77,31 +77,6 @@ impl Order for Little {
     fn put(value: u64, into: &mut [u8]) {
         let width = into.len();
         LittleEndian::write_uint(into, value, width);
-    }
-}
-
-/// The number in these bytes, in the order of a layout.
-pub fn get_number(big: bool, bytes: &[u8]) -> u64
-    requires { IsWidth (length bytes.now) }
-    ensures { result ≡ number_of big bytes.now }
-{
-    if big {
-        Big::get(bytes)
-    } else {
-        Little::get(bytes)
-    }
-}
-
-/// Makes these bytes those of a number that fits them, in the order of a layout.
-pub fn put_number(big: bool, value: u64, into: &mut [u8])
-    requires width { IsWidth (length into.old) }
-    requires fits { value < 256 ^ length into.old }
-    ensures { into.new ≡ bytes_of big (length into.old) value }
-{
-    if big {
-        Big::put(value, into)
-    } else {
-        Little::put(value, into)
     }
 }
 

@@ -1,5 +1,5 @@
 use crate::number::cut;
-use crate::{Big, Layout, Little, Order, get_number, put_number};
+use crate::{Big, Layout, Little, Order, Width, get_number, put_number};
 use std::alloc::{AllocError, Global};
 
 /// On each line a string, and behind a `=` what it states: order, width and alignment of pointers, and the alignments
@@ -109,15 +109,16 @@ fn numbers_stand_in_both_orders(rt: HostRuntime) {
         (4, 0x0102_0304, 0x0403_0201),
         (8, 0x0102_0304_0506_0708, 0x0807_0605_0403_0201),
     ] {
-        assert_eq!(rt; get_number(true, &bytes[..width]), big);
-        assert_eq!(rt; get_number(false, &bytes[..width]), little);
+        let number = &bytes[..width];
+        assert_eq!(rt; get_number(true, Width::of(width), number), big);
+        assert_eq!(rt; get_number(false, Width::of(width), number), little);
     }
     assert_eq!(rt; Big::get(&[255, 0]), 65_280);
     assert_eq!(rt; Little::get(&[255, 0]), 255);
     let mut four = [0; 4];
-    put_number(true, 0x0A0B_0C0D, &mut four);
+    put_number(true, Width::Four, 0x0A0B_0C0D, &mut four);
     assert!(rt; four == [10, 11, 12, 13]);
-    put_number(false, 0x0A0B_0C0D, &mut four);
+    put_number(false, Width::Four, 0x0A0B_0C0D, &mut four);
     assert!(rt; four == [13, 12, 11, 10]);
     let mut two = [0; 2];
     Big::put(258, &mut two);

@@ -1,6 +1,6 @@
 use Rattle.std.proofs.Common.{◌∙◌, ap, ℕ, Bool, true, arith}
 use Rattle.no_layout.proofs.Accesses.{done_held}
-use Rattle.no_layout.proofs.numbers.prepare_all.Goals as goal
+use Rattle.no_layout.proofs.ranges.prepare_all.Goals as goal
 
 pub prepare-requires : goal.prepare-requires
 prepare-requires g c =
