@@ -1,0 +1,17 @@
+-- What a named type stands for (LLVM Language Reference, "Structure Types").
+use Rattle.std.specs.Prelude.{ℕ, List, Option, Some, None, slice_get}
+use Rattle.no_ir.specs.declared.types.Ty.{Ty, out-Ty}
+use Rattle.no_ir.specs.declared.types.Ty.TheOpen.{Ty-F}
+
+-- the definition, where there is one
+abbrev pub defined : Ty → Option (List ℕ × Ty) → Ty
+defined t None = t
+defined t (Some named) = named.1
+
+abbrev pub resolved_step : List (List ℕ × Ty) → Ty → Ty-F Ty → Ty
+resolved_step types t (Ty-F.Named k) = defined t (slice_get types k)
+resolved_step types t _ = t
+
+-- a named type stands for its definition, and any other type for itself
+abbrev pub resolved : List (List ℕ × Ty) → Ty → Ty
+resolved types t = resolved_step types t (out-Ty t)
