@@ -19,3 +19,7 @@ pub mod Externals
 pub mod Taken
 pub mod Calls
 pub mod Acting
+pub mod Steps
+pub mod Starts
+pub mod Runs
+pub mod Outermost
