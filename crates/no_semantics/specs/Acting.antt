@@ -1,5 +1,5 @@
 -- The row of each instruction (docs/LANGUAGE.md, "Instructions").
-use Rattle.std.specs.Prelude.{ℕ, Option, Some, None}
+use Rattle.std.specs.Prelude.{ℕ, Option}
 use Rattle.no_ir.specs.declared.ending.Trap.TheVariants.{Unreachable}
 use Rattle.no_ir.specs.declared.instruction.Op.{Op}
 use Rattle.no_ir.specs.declared.instruction.Op.TheVariants as op

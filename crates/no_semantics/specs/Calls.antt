@@ -1,24 +1,23 @@
 -- Calls and returns (LLVM Language Reference, "call Instruction", "ret Instruction").
-use Rattle.std.specs.Prelude.{ℕ, zero, suc, ◌+◌, ◌-◌, ◌*◌, ◌/◌, ◌%◌, Bool, true, false, ◌&&◌, ◌||◌, ◌==◌, nat_le, nat_lt, if◌then◌else◌, List, [], ◌∷◌, length, map, replicate, slice_get, Option, Some, None, option_map}
-use Rattle.no_ir.specs.declared.types.Ty.{Ty, out-Ty}
-use Rattle.no_ir.specs.declared.types.Ty.TheOpen.{Ty-F}
-use Rattle.no_ir.specs.declared.ending.End.TheVariants.{Exited, Trapped}
-use Rattle.no_ir.specs.declared.ending.Trap.{Trap}
+use Rattle.std.specs.Prelude.{ℕ, ◌+◌, ◌-◌, ◌*◌, ◌/◌, ◌%◌, Bool, true, false, ◌&&◌, ◌==◌, nat_lt, if◌then◌else◌, List, [], ◌∷◌, length, map, replicate, Option, Some, None}
+use Rattle.no_ir.specs.declared.types.Ty.{Ty}
+use Rattle.no_ir.specs.declared.ending.End.TheVariants.{Exited}
 use Rattle.no_ir.specs.declared.ending.Trap.TheVariants.{BadFunction, StackOverflow}
 use Rattle.no_ir.specs.declared.instruction.Operand.{Operand}
 use Rattle.no_ir.specs.declared.function.Function.{Function}
-use Rattle.no_ir.specs.declared.function.Role.{Role}
-use Rattle.no_ir.specs.declared.function.Role.TheVariants.{Source, Part}
 use Rattle.no_layout.specs.Memory.{function_address, stack_start}
-use Rattle.no_typing.specs.declared.external.External.{External}
-use Rattle.no_typing.specs.declared.external.External.TheVariants as external
-use Rattle.no_typing.specs.Externals.{external_named}
+use Rattle.no_module.specs.declared.external.External.{External}
+use Rattle.no_module.specs.declared.external.External.TheVariants as external
+use Rattle.no_module.specs.Externals.{external_of}
+use Rattle.no_module.specs.Functions.{is_declared}
+use Rattle.no_module.specs.Scalars.{agree, same_result, scalar_of}
 use Rattle.no_typing.specs.Typing.{direct}
-use Rattle.no_semantics.specs.Effects.{Store, Done, Deed, Does, Exits, Fails, NoDeed}
-use Rattle.no_semantics.specs.Externals.{external_does}
-use Rattle.no_semantics.specs.Registers.{Registers, given, all_given, operand_of, pointer_of, argument_of}
+use Rattle.no_semantics.specs.Control.{arrived}
+use Rattle.no_semantics.specs.Externals.{World, Effect, Outcome, do_external, is_getchar}
+use Rattle.no_semantics.specs.Externals as outcome
+use Rattle.no_semantics.specs.Registers.{Registers, given, all_given, pointer_of, argument_of}
 use Rattle.no_semantics.specs.Results.{Valued, Number, Traps, NoValue, reading, lowered, stack_place}
-use Rattle.no_semantics.specs.Rows.{Row, Range, Calling, Next, Goes, Leaves, Ends, Stuck, plain, stuck, trapping, going}
+use Rattle.no_semantics.specs.Rows.{Row, Goes, Leaves, Ends, plain, stuck, trapping, going, unfinished}
 use Rattle.no_semantics.specs.Access.{allocated}
 use Rattle.no_semantics.specs.States.{Frame, State, function_at, put, answered, instr_at}
 use Rattle.no_semantics.specs.Taken.{is_callable}
@@ -26,37 +25,19 @@ use Rattle.no_semantics.specs.Values.{Program}
 
 -- ---- types of calls
 
--- two types of values, or none of a value, that are the same
-abbrev pub same_int : ℕ → Ty-F Ty → Bool
-same_int w (Ty-F.Int v) = w == v
-same_int w _ = false
-
-abbrev pub is_ptr : Ty-F Ty → Bool
-is_ptr Ty-F.Ptr = true
-is_ptr _ = false
-
-abbrev pub is_void : Ty-F Ty → Bool
-is_void Ty-F.Void = true
-is_void _ = false
-
-abbrev pub same_step : Ty-F Ty → Ty-F Ty → Bool
-same_step (Ty-F.Int w) u = same_int w u
-same_step Ty-F.Ptr u = is_ptr u
-same_step Ty-F.Void u = is_void u
-same_step _ u = false
-
-abbrev pub same_type : Ty → Ty → Bool
-same_type t u = same_step (out-Ty t) (out-Ty u)
+-- an argument has the type of a parameter
+abbrev pub is_passed : Ty × Operand → ℕ × Ty → Bool
+is_passed argument param = agree (scalar_of argument.0) (scalar_of param.1)
 
 -- as many arguments as parameters, each of its type
 abbrev pub are_passed : List (Ty × Operand) → List (ℕ × Ty) → Bool
 are_passed [] [] = true
-are_passed (a ∷ args) (q ∷ params) = same_type a.0 q.1 && are_passed args params
+are_passed (a ∷ args) (q ∷ params) = is_passed a q && are_passed args params
 are_passed _ _ = false
 
 -- a call that gives this type and passes these arguments is one of the function's type
 abbrev pub has_type : Ty → List (Ty × Operand) → Function → Bool
-has_type t args g = same_type t g.result && are_passed args g.params
+has_type t args g = same_result t g.result && are_passed args g.params
 
 -- ---- callees
 
@@ -112,22 +93,28 @@ entered k g ns s = if nat_lt s.sp (stack_start + call_room) then trapping StackO
 
 -- ---- externals
 
-abbrev pub store_of : State → Store
-store_of s = record { byte = s.byte; heap = s.heap; input = s.input }
+abbrev pub world_of : State → World
+world_of s = record { byte = s.byte; heap = s.heap; input = s.input }
 
-abbrev pub with_store : State → Store → State
-with_store s w = record s { byte = w.byte; heap = w.heap; input = w.input }
+abbrev pub with_world : State → World → State
+with_world s w = record s { byte = w.byte; heap = w.heap; input = w.input }
 
-abbrev pub done_row : Done → State → Option Frame → Row
-done_row d s None = stuck
-done_row d s (Some f) = record { cost = d.cost; sought = d.sought; reads = d.reads; writes = d.writes; asks = d.asks; next = Goes d.output None (record (with_store s d.after) { frame = f }) }
+-- the call gets its value, and the run goes on with what the external leaves
+abbrev pub effect_row : ℕ → Effect → State → Option Frame → Row
+effect_row cost e s None = stuck
+effect_row cost e s (Some f) = record { cost = cost; sought = e.sought; reads = e.reads; writes = e.writes; asks = false; next = Goes e.output None (record (with_world s e.world) { frame = f }) }
+
+abbrev pub outcome_row : Option ℕ → Outcome → Effect → State → Row
+outcome_row into (outcome.Gives v cost) e s = effect_row cost e s (answered into (Some v) s.frame)
+outcome_row into (outcome.Does cost) e s = effect_row cost e s (answered into None s.frame)
+outcome_row into (outcome.Exits c) e s = plain (Ends (Exited c))
+outcome_row into (outcome.Traps t) e s = record (trapping t) { sought = e.sought }
+outcome_row into outcome.Over e s = unfinished e.sought
+outcome_row into outcome.Stuck e s = stuck
 
 -- what an external does, and its result
-abbrev pub deed_row : Option ℕ → Deed → State → Row
-deed_row into (Does d) s = done_row d s (answered into d.value s.frame)
-deed_row into (Exits c) s = plain (Ends (Exited c))
-deed_row into (Fails t sought) s = record (trapping t) { sought = sought }
-deed_row into NoDeed s = stuck
+abbrev pub row_effect : Option ℕ → Effect → State → Row
+row_effect into e s = outcome_row into e.outcome e s
 
 -- the first function of a part with a device address, by its number from k on
 abbrev pub has_address : ℕ → Option ℕ → Bool
@@ -144,7 +131,7 @@ mapped None = 0
 mapped (Some k) = function_address k
 
 abbrev pub row_map : Program → Option ℕ → List ℕ → State → Row
-row_map p into (at ∷ []) s = deed_row into (Does (record { value = Some (mapped (addressed_from 0 p.«module».functions at)); cost = 1; sought = []; reads = []; writes = []; output = []; asks = false; after = store_of s })) s
+row_map p into (at ∷ []) s = arrived s (answered into (Some (mapped (addressed_from 0 p.«module».functions at))) s.frame)
 row_map p into _ s = stuck
 
 -- so many times so many bytes on the stack
@@ -155,19 +142,12 @@ row_room into _ s = stuck
 abbrev pub row_external : Program → Option ℕ → External → List ℕ → State → Row
 row_external p into external.Alloca ns s = row_room into ns s
 row_external p into external.Map ns s = row_map p into ns s
-row_external p into e ns s = deed_row into (external_does p.regions e ns (store_of s)) s
-
--- a declared function is an external, by its name
-abbrev pub is_declared : Function → Bool
-is_declared g = length g.blocks == 0
-
-abbrev pub external_of : Program → Function → Option External
-external_of p g = external_named p.role g.name
+row_external p into e ns s = record (row_effect into (do_external p.regions e ns (world_of s)) s) { asks = is_getchar e }
 
 -- ---- instructions
 
 abbrev pub invoked : Program → Option ℕ → ℕ → List ℕ → State → Function → Row
-invoked p into k ns s g = if is_declared g then given stuck (external_of p g) (λ e. row_external p into e ns s) else entered k g ns s
+invoked p into k ns s g = if is_declared g then given stuck (external_of p.role g) (λ e. row_external p into e ns s) else entered k g ns s
 
 abbrev pub calling : Program → Option ℕ → Valued → List (Ty × Operand) → State → Row
 calling p into (Number k) args s = given stuck (arguments_of p s.frame.registers args) (λ ns. given stuck (function_at p k) (invoked p into k ns s))

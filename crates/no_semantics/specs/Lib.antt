@@ -11,10 +11,10 @@ pub mod Run
 pub mod Registers
 pub mod Results
 pub mod States
+pub mod Spans
 pub mod Rows
 pub mod Control
 pub mod Access
-pub mod Effects
 pub mod Externals
 pub mod Taken
 pub mod Calls

@@ -3,7 +3,7 @@ use Rattle.std.specs.Prelude.{◌≡◌, ℕ, zero, suc, ◌+◌, ◌-◌, Bool,
 use Rattle.no_semantics.specs.Accepted.{Accepted}
 use Rattle.no_semantics.specs.Acting.{step}
 use Rattle.no_semantics.specs.First.{program_of}
-use Rattle.no_semantics.specs.Rows.{Row, Next, Calling, Goes, Leaves, Ends, Stuck}
+use Rattle.no_semantics.specs.Rows.{Next, Calling, Goes, Leaves, Ends, Stuck}
 use Rattle.no_semantics.specs.Starts.{start_of}
 use Rattle.no_semantics.specs.States.{State}
 use Rattle.no_semantics.specs.Values.{Program}

@@ -1,20 +1,11 @@
 -- What an instruction does in a state: its cost, the bytes that it needs, and what comes next.
-use Rattle.std.specs.Prelude.{ℕ, ◌+◌, ◌==◌, Bool, true, false, nat_lt, if◌then◌else◌, List, [], ◌∷◌, ◌++◌, Option, Some, None}
+use Rattle.std.specs.Prelude.{ℕ, ◌==◌, Bool, true, false, nat_lt, if◌then◌else◌, List, [], ◌++◌, Option, None}
 use Rattle.no_ir.specs.declared.ending.End.{End}
 use Rattle.no_ir.specs.declared.ending.End.TheVariants.{Trapped, Unfinished}
 use Rattle.no_ir.specs.declared.ending.Trap.{Trap}
 use Rattle.no_semantics.specs.Results.{Valued, Number, Traps, NoValue}
-use Rattle.no_semantics.specs.Registers.{given}
-use Rattle.no_semantics.specs.States.{Frame, State, assigned, moved, answered}
-
--- so many bytes from an address on
-pub record Range : Type 0 where
-  pub at : ℕ
-  pub size : ℕ
-
--- a range, and none where it is empty
-abbrev pub range : ℕ → ℕ → List Range
-range at size = if size == 0 then [] else record { at = at; size = size } ∷ []
+use Rattle.no_semantics.specs.Spans.{Span}
+use Rattle.no_semantics.specs.States.{Frame, State, assigned}
 
 -- a call of a defined function: which, and with which arguments
 pub record Calling : Type 0 where
@@ -28,12 +19,12 @@ pub data Next : Type 0 where
   Ends : (end : End) → Next
   Stuck : Next
 
--- What an instruction does. `sought` is what it reads to learn its cost or its trap; `reads` and `writes` is what it touches where it is done. `asks` says that it takes a byte of the input.
+-- What an instruction does. `sought` is what it reads to learn its cost or its trap, `reads` and `writes` what it reads and writes besides. `asks` says that it takes a byte of the input.
 pub record Row : Type 0 where
   pub cost : ℕ
-  pub sought : List Range
-  pub reads : List Range
-  pub writes : List Range
+  pub sought : List Span
+  pub reads : List Span
+  pub writes : List Span
   pub asks : Bool
   pub next : Next
 
@@ -65,11 +56,19 @@ computed into NoValue s = stuck
 -- ---- budgets
 
 -- all bytes of which the pages must be there
-abbrev pub needed : Row → List Range
+abbrev pub needed : Row → List Span
 needed row = row.sought ++ (row.reads ++ row.writes)
 
+abbrev pub touched_by : Next → List Span → List Span
+touched_by (Goes bytes call t) spans = spans
+touched_by _ spans = []
+
+-- what the instruction touches: an end touches nothing, whatever was read to learn it
+abbrev pub touched : Row → List Span
+touched row = touched_by row.next (needed row)
+
 -- an instruction that is not finished changes nothing
-abbrev pub unfinished : List Range → Row
+abbrev pub unfinished : List Span → Row
 unfinished sought = record { cost = 0; sought = sought; reads = []; writes = []; asks = false; next = Ends Unfinished }
 
 abbrev pub affordable : ℕ → Row → Row

@@ -50,7 +50,7 @@ Runs p left s w = (n : ℕ) × (within p n left s ≡ Some w)
 -- ---- from the entry of main
 
 -- what the run of a program writes, how much it counts, and how it ends
-pub record Outcome : Type 0 where
+pub record Ran : Type 0 where
   pub output : List ℕ
   pub count : ℕ
   pub end : End
@@ -61,19 +61,19 @@ end_of (Returned (Some n)) = Some (Exited (n % 256))
 end_of (Returned None) = None
 end_of (Ended end) = Some end
 
-abbrev pub outcome_by : List ℕ → ℕ → End → Outcome
-outcome_by output count end = record { output = output; count = count; end = end }
+abbrev pub ran_by : List ℕ → ℕ → End → Ran
+ran_by output count end = record { output = output; count = count; end = end }
 
-abbrev pub outcome_of : Whole → Option Outcome
-outcome_of w = option_map (outcome_by w.output w.count) (end_of w.finish)
+abbrev pub ran_of : Whole → Option Ran
+ran_of w = option_map (ran_by w.output w.count) (end_of w.finish)
 
 -- this is the run of an accepted program on an input within a budget
-pub record IsRun (a : Accepted) (input : List ℕ) (budget : ℕ) (o : Outcome) : Type 0 where
+pub record IsRun (a : Accepted) (input : List ℕ) (budget : ℕ) (r : Ran) : Type 0 where
   pub begin : State
   pub begins : start_of a input ≡ Some begin
   pub whole : Whole
   pub runs : Runs (program_of a) budget begin whole
-  pub is : outcome_of whole ≡ Some o
+  pub is : ran_of whole ≡ Some r
 
 -- ---- from the entry of any function
 

@@ -1,5 +1,5 @@
 -- The functions whose address is taken: those that are named anywhere but as the callee of a direct call, in code that runs or not.
-use Rattle.std.specs.Prelude.{ℕ, Bool, true, false, ◌||◌, nat_eq, if◌then◌else◌, List, [], ◌∷◌, ◌++◌, is_some, Option, Some, None}
+use Rattle.std.specs.Prelude.{ℕ, Bool, nat_eq, if◌then◌else◌, List, [], ◌++◌, is_some}
 use Rattle.std.specs.List.{flat_map, list_any}
 use Rattle.no_ir.specs.declared.instruction.Operand.{Operand}
 use Rattle.no_ir.specs.declared.instruction.Op.{Op}
