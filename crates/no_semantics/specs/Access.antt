@@ -39,4 +39,4 @@ stored p at size n s None = record (going (record s { frame = moved s.frame; byt
 unfoldable pub row_store : Program → Ty → Operand → Operand → State → Row
 row_store p t v a s =
     given stuck (pointer_of p s.frame.registers a) (λ at. given stuck (operand_of p s.frame.registers t v) (λ n.
-        stored p at (bytes_of_type p t) n s (refusal p.regions true at (bytes_of_type p t))))
+    stored p at (bytes_of_type p t) n s (refusal p.regions true at (bytes_of_type p t))))

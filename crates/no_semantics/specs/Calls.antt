@@ -17,7 +17,7 @@ use Rattle.no_semantics.specs.Externals.{World, Effect, Outcome, do_external, is
 use Rattle.no_semantics.specs.Externals as outcome
 use Rattle.no_semantics.specs.Registers.{Registers, given, all_given, pointer_of, argument_of}
 use Rattle.no_semantics.specs.Results.{Valued, Number, Traps, NoValue, reading, lowered, stack_place}
-use Rattle.no_semantics.specs.Rows.{Row, Goes, Leaves, Ends, plain, stuck, trapping, going, unfinished}
+use Rattle.no_semantics.specs.Rows.{Row, Next, Goes, Leaves, Ends, Stuck, plain, stuck, trapping, going, unfinished}
 use Rattle.no_semantics.specs.Access.{allocated}
 use Rattle.no_semantics.specs.States.{Frame, State, function_at, put, answered, instr_at}
 use Rattle.no_semantics.specs.Taken.{is_callable}
@@ -100,9 +100,12 @@ abbrev pub with_world : State → World → State
 with_world s w = record s { byte = w.byte; heap = w.heap; input = w.input }
 
 -- the call gets its value, and the run goes on with what the external leaves
+abbrev pub effect_next : Effect → State → Option Frame → Next
+effect_next e s None = Stuck
+effect_next e s (Some f) = Goes e.output None (record (with_world s e.world) { frame = f })
+
 abbrev pub effect_row : ℕ → Effect → State → Option Frame → Row
-effect_row cost e s None = stuck
-effect_row cost e s (Some f) = record { cost = cost; sought = e.sought; reads = e.reads; writes = e.writes; asks = false; next = Goes e.output None (record (with_world s e.world) { frame = f }) }
+effect_row cost e s f = record { cost = cost; sought = e.sought; reads = e.reads; writes = e.writes; asks = false; next = effect_next e s f }
 
 abbrev pub outcome_row : Option ℕ → Outcome → Effect → State → Row
 outcome_row into (outcome.Gives v cost) e s = effect_row cost e s (answered into (Some v) s.frame)

@@ -118,7 +118,11 @@ do_malloc size w = gives (place_or_null (fit w.heap size)) (placed (fit w.heap s
 abbrev pub cleared : Option ℕ → ℕ → World → Effect
 cleared None size w = gives 0 w
 cleared (Some place) size w = record {
-  sought = []; reads = []; writes = span_of place size; outcome = Gives place (cost_of size); output = [];
+  sought = [];
+  reads = [];
+  writes = span_of place size;
+  outcome = Gives place (cost_of size);
+  output = [];
   world = record { byte = written w.byte place (replicate size 0); heap = set_block w.heap place (rounded size); input = w.input };
 }
 
