@@ -58,8 +58,8 @@ moved f = record f { at = f.at + 1 }
 abbrev pub assigned : Option ℕ → ℕ → Frame → Frame
 assigned into n f = record f { at = f.at + 1; registers = put_into into n f.registers }
 
--- the same of a call, which gives a number exactly where it has a result to give it to; where it gives one that nothing takes, it is dropped
+-- the same of a call: what it gives and nothing takes is dropped, and where it gives nothing, nothing is assigned
 abbrev pub answered : Option ℕ → Option ℕ → Frame → Option Frame
 answered None value f = Some (moved f)
 answered (Some r) (Some n) f = Some (assigned (Some r) n f)
-answered (Some r) None f = None
+answered (Some r) None f = Some (moved f)
