@@ -1,41 +1,35 @@
 -- What each external leaves, and that it has a meaning for arguments of its parameters' widths.
 use Rattle.std.specs.Int.{bytes_low_first, byte_at}
-use Rattle.std.proofs.Common.{◌≡◌, ◌⊎◌, inl, inr, ⊎_elim, ℕ, zero, suc, ◌+◌, ◌-◌, ◌*◌, ◌/◌, ◌%◌, ◌^◌, ◌<◌, ◌≤◌, ◌==◌, ◌||◌, ◌&&◌, nat_lt, nat_le, int_le, Bool, true, false, true≢false, eqb-true, Option, Some, None, is_some, if◌then◌else◌, List, [], ◌∷◌, ◌++◌, replicate, length, map, refl, sym, ap, ◌∙◌, subst, arith,  pow_mono, pow_pos, pow-suc, mul-le-mul_right}
+use Rattle.std.proofs.Common.{◌≡◌, ℕ, zero, suc, ◌+◌, ◌*◌, ◌/◌, ◌%◌, ◌^◌, ◌<◌, ◌≤◌, ◌==◌, ◌||◌, ◌&&◌, nat_lt, nat_le, int_le, Bool, true, false, true≢false, eqb-true, Option, Some, None, if◌then◌else◌, List, [], ◌∷◌, ◌++◌, replicate, length, map, refl, sym, ap, subst, arith, pow_mono, pow_pos, pow-suc, mul-le-mul_right}
 use Rattle.std.proofs.lemmas.Bool.{lt-ltb}
-use Rattle.std.proofs.lemmas.Option.{same_Some, none-some}
-use Rattle.no_ir.specs.declared.types.Ty.{Ty, out-Ty}
-use Rattle.no_ir.specs.declared.types.Ty.TheOpen.{Ty-F}
-use Rattle.no_ir.specs.declared.function.Function.{Function}
-use Rattle.no_ir.specs.declared.function.Role.{Role}
+use Rattle.no_ir.specs.declared.types.Ty.{Ty}
 use Rattle.no_ir.specs.declared.ending.Trap.{Trap}
 use Rattle.no_ir.specs.declared.ending.Trap.TheVariants.{BadAddress, BadFree}
 use Rattle.no_eval.specs.Numbers.{signed}
 use Rattle.no_heap.specs.declared.block.Block.{Block}
 use Rattle.no_heap.specs.Blocks.{AreLive, set_block, size_at}
-use Rattle.no_heap.specs.Fit.{IsFit, FitsAt, fit, rounded}
+use Rattle.no_heap.specs.Fit.{IsFit, fit, rounded}
 use Rattle.no_heap.proofs.Gaps.{fit_is}
 use Rattle.no_heap.proofs.Placing.{placed_live, freed_live}
 use Rattle.no_layout.specs.Memory.{refusal, read_bytes}
 use Rattle.no_layout.specs.Orders.{big_of, swapped}
-use Rattle.no_layout.specs.declared.layout.Layout.{Layout}
 use Rattle.no_layout.specs.declared.memory.Regions.{Regions}
 use Rattle.no_module.specs.declared.external.External.{External}
 use Rattle.no_module.specs.declared.external.External.TheVariants as external
 use Rattle.no_module.specs.declared.scalar.Scalar.{Scalar}
 use Rattle.no_module.specs.declared.scalar.Scalar.TheVariants as scalar
-use Rattle.no_module.specs.Scalars.{each_meets, integer, is_integer, is_of, is_param, is_pointer, scalar_of, scalar_step, is_void, takes, void_step}
-use Rattle.no_module.specs.Widths.{is_width}
-use Rattle.no_semantics.specs.Externals.{World, Effect, Outcome, Gives, Does, Exits, Traps, Over, Stuck, still, seeking, gives, cost_of, next_of, rest_of, do_getchar, do_putchar, room_of, text_length, put_text, do_puts, placed, place_or_null, do_malloc, cleared, do_calloc, do_free, put_bytes, first_refusal, do_move, do_set, valued, is_swapped_width, is_compared_width, are_below, do_swap, chosen, do_umin, do_umax, do_smin, do_smax, do_exit, do_abort, with_none, with_one, with_two, with_four, do_external}
-use Rattle.no_semantics.specs.Values.{Program, width_of, width_step}
+use Rattle.no_module.specs.Scalars.{is_void, takes}
+use Rattle.no_semantics.specs.Externals.{World, Effect, Outcome, Gives, Does, Exits, Traps, Over, Stuck, still, seeking, gives, cost_of, next_of, rest_of, do_getchar, do_putchar, room_of, text_length, do_puts, placed, place_or_null, do_malloc, cleared, do_calloc, do_free, put_bytes, first_refusal, do_move, do_set, valued, is_swapped_width, is_compared_width, are_below, do_swap, chosen, do_umin, do_umax, do_smin, do_smax, do_exit, do_abort, with_none, with_one, with_two, with_four, do_external}
+use Rattle.no_semantics.specs.Values.{Program}
 use Rattle.no_progress.specs.Proper.{Each, bits}
-use Rattle.no_progress.proofs.Reading.{AreBelow, low}
-use Rattle.no_progress.proofs.Frames.{cases, or2}
+use Rattle.no_progress.proofs.Reading.{AreBelow}
+use Rattle.no_progress.proofs.Frames.{or2}
 use Rattle.no_progress.proofs.Entering.{and_parts, param_widths}
 use Rattle.no_progress.proofs.Stepping.{ValueFits}
 use Rattle.no_heap.specs.declared.block.TheConstants.{HEAP_END}
 use Rattle.no_semantics.specs.Spans.{Span, span_of}
-use Rattle.no_progress.proofs.Externals.{scalar_width, given_bits, void_bits, taken_widths, WidthFits, IsExternal, is_external}
-use Rattle.no_module.specs.Externals.{gives as gives', pairs_up, has_type as is_typed, external_of}
+use Rattle.no_progress.proofs.Externals.{scalar_width, given_bits, void_bits, taken_widths, IsExternal}
+use Rattle.no_module.specs.Externals.{gives as gives'}
 
 -- live blocks, and an input of bytes
 abbrev pub WorldFits : World → Type 0
@@ -77,8 +71,8 @@ swapped_small : (w n : ℕ) → is_swapped_width w ≡ true → swapped (w / 8) 
 swapped_small w n e = or2 (w == 16) (w == 32 || w == 64) e
     (λ h. subst (λ (x : ℕ). swapped (x / 8) n < 2 ^ x) (sym (eqb-true w 16 h)) (big_small 0 2 n))
     (λ h. or2 (w == 32) (w == 64) h
-        (λ j. subst (λ (x : ℕ). swapped (x / 8) n < 2 ^ x) (sym (eqb-true w 32 j)) (big_small 0 4 n))
-        (λ j. subst (λ (x : ℕ). swapped (x / 8) n < 2 ^ x) (sym (eqb-true w 64 j)) (big_small 0 8 n)))
+    (λ j. subst (λ (x : ℕ). swapped (x / 8) n < 2 ^ x) (sym (eqb-true w 32 j)) (big_small 0 4 n))
+    (λ j. subst (λ (x : ℕ). swapped (x / 8) n < 2 ^ x) (sym (eqb-true w 64 j)) (big_small 0 8 n)))
 
 chosen_small : (first : Bool) (w a b : ℕ) → a < 2 ^ w → b < 2 ^ w → chosen first a b < 2 ^ w
 chosen_small true w a b f g = f
@@ -236,8 +230,8 @@ sized_typed : (p : Program) (ss us : List Scalar) (t : Ty) (ps : List (ℕ × Ty
 sized_typed p ss us t ps P e f g =
     let parts = and_parts (gives' scalar.Ptr t) (takes ss ps || takes us ps) e in
     or2 (takes ss ps) (takes us ps) parts.1
-        (λ h. f (record { gives_it = given_bits p scalar.Ptr t parts.0; widths = taken_widths p ss ps h }))
-        (λ h. g (record { gives_it = given_bits p scalar.Ptr t parts.0; widths = taken_widths p us ps h }))
+    (λ h. f (record { gives_it = given_bits p scalar.Ptr t parts.0; widths = taken_widths p ss ps h }))
+    (λ h. g (record { gives_it = given_bits p scalar.Ptr t parts.0; widths = taken_widths p us ps h }))
 
 -- an external of no server's part alone
 abbrev pub is_plain : External → Bool

@@ -1,14 +1,12 @@
 -- Calls of defined functions: arguments and results of one type, and the frame at an entry.
-use Rattle.std.proofs.Common.{◌≡◌, ◌⊎◌, inl, inr, ⊎_elim, ℕ, zero, suc, ◌+◌, ◌-◌, ◌^◌, ◌<◌, ◌≤◌, ◌==◌, ◌||◌, ◌&&◌, nat_lt, Bool, true, false, true≢false, eqb-true, Option, Some, None, if◌then◌else◌, List, [], ◌∷◌, length, map, take, replicate, slice_get, slice_set, refl, sym, ap, ◌∙◌, subst, arith, length-set}
-use Rattle.std.specs.List.{list_any}
+use Rattle.std.proofs.Common.{◌≡◌, ℕ, ◌+◌, ◌-◌, ◌<◌, ◌≤◌, ◌==◌, ◌&&◌, nat_lt, Bool, true, false, true≢false, eqb-true, Option, Some, None, if◌then◌else◌, List, [], ◌∷◌, length, map, take, slice_get, refl, sym, ap, ◌∙◌, subst, arith, length-set}
 use Rattle.std.proofs.lemmas.Bool.{ltb-false}
 use Rattle.std.proofs.lemmas.List.{length-replicate}
-use Rattle.std.proofs.lemmas.Option.{same_Some, none-some, slice_get_within}
+use Rattle.std.proofs.lemmas.Option.{slice_get_within}
 use Rattle.no_ir.specs.declared.types.Ty.{Ty, out-Ty}
 use Rattle.no_ir.specs.declared.types.Ty.TheOpen.{Ty-F}
 use Rattle.no_ir.specs.declared.ending.Trap.TheVariants.{StackOverflow}
 use Rattle.no_ir.specs.declared.instruction.Operand.{Operand}
-use Rattle.no_ir.specs.declared.instruction.Op.TheVariants as op
 use Rattle.no_ir.specs.declared.instruction.Instr.{Instr}
 use Rattle.no_ir.specs.declared.function.Block.{Block}
 use Rattle.no_ir.specs.declared.function.Function.{Function}
@@ -16,20 +14,20 @@ use Rattle.no_layout.specs.Memory.{stack_start, stack_end}
 use Rattle.no_layout.specs.declared.layout.Layout.{Layout}
 use Rattle.no_module.specs.declared.scalar.Scalar.{Scalar}
 use Rattle.no_module.specs.declared.scalar.Scalar.TheVariants as scalar
-use Rattle.no_module.specs.Scalars.{integer, scalar_step, scalar_of, is_of, agree, void_step, is_void, same_result}
+use Rattle.no_module.specs.Scalars.{integer, scalar_step, scalar_of, agree, void_step, is_void, same_result}
 use Rattle.no_module.specs.Widths.{is_width}
 use Rattle.no_module.specs.Functions.{is_declared, no_blocks}
-use Rattle.no_paths.specs.Paths.{code_in, code_of, PathTo, assigns, is_among, is_parameter, assigned}
+use Rattle.no_paths.specs.Paths.{code_in, code_of, assigns, is_among, is_parameter}
 use Rattle.no_semantics.specs.Registers.{Registers, given}
-use Rattle.no_semantics.specs.Rows.{Row, Next, Goes, plain, trapping}
+use Rattle.no_semantics.specs.Rows.{plain, trapping}
 use Rattle.no_semantics.specs.States.{Frame, State, function_at, put}
-use Rattle.no_semantics.specs.Control.{phi_count, one_more}
-use Rattle.no_semantics.specs.Calls.{call_room, is_passed, are_passed, has_type, passed, unassigned, entry_frame, called, entered}
+use Rattle.no_semantics.specs.Control.{phi_count}
+use Rattle.no_semantics.specs.Calls.{call_room, is_passed, are_passed, passed, unassigned, entry_frame, called, entered}
 use Rattle.no_semantics.specs.Values.{Program, width_of, width_step}
-use Rattle.no_progress.specs.Proper.{Each, bits, Answers, IsProper, IsSafe, is_phi}
+use Rattle.no_progress.specs.Proper.{Each, bits, IsProper, IsSafe, is_phi}
 use Rattle.no_progress.specs.Valid.{Held, IsOnStack, IsFrameOf, IsCallerOf, AreCallers, IsStateOf, Fine}
 use Rattle.no_progress.proofs.Reading.{AreBelow, put_here, put_kept}
-use Rattle.no_progress.proofs.Frames.{or2, count_none, fine, at_begin}
+use Rattle.no_progress.proofs.Frames.{or2, count_none, at_begin}
 use Rattle.no_progress.proofs.Stepping.{state_of}
 
 -- ---- types that agree have one width
@@ -83,9 +81,9 @@ and_parts false b e = absurd (true≢false (sym e))
 pub same_bits : (p : Program) (t u : Ty) → same_result t u ≡ true → bits p t ≡ bits p u
 same_bits p t u e = or2 (is_void t && is_void u) (agree (scalar_of t) (scalar_of u)) e
     (λ h. let both = and_parts (is_void t) (is_void u) h in
-      ap (λ (b : Bool). if b then None else Some (width_of p.layout t)) both.0 ∙ sym (ap (λ (b : Bool). if b then None else Some (width_of p.layout u)) both.1))
+    ap (λ (b : Bool). if b then None else Some (width_of p.layout t)) both.0 ∙ sym (ap (λ (b : Bool). if b then None else Some (width_of p.layout u)) both.1))
     (λ h. let a = agree_alike p.layout t u h in
-      ap (λ (b : Bool). if b then None else Some (width_of p.layout t)) a.1 ∙ ap Some a.0 ∙ sym (ap (λ (b : Bool). if b then None else Some (width_of p.layout u)) a.2))
+    ap (λ (b : Bool). if b then None else Some (width_of p.layout t)) a.1 ∙ ap Some a.0 ∙ sym (ap (λ (b : Bool). if b then None else Some (width_of p.layout u)) a.2))
 
 abbrev pub param_widths : Program → List (ℕ × Ty) → List ℕ
 param_widths p params = map (λ (q : ℕ × Ty). width_of p.layout q.1) params
@@ -120,7 +118,9 @@ passes p count width (q ∷ params) [] rs long fits small = absurd small
 passes p count width (q ∷ params) (n ∷ ns) rs long fits small =
     let rest : Passed width params ns (put q.0 n rs) = passes p count width params ns (put q.0 n rs) (long ∙ sym (length-set rs q.0 (Some n))) fits.1 small.1 in
     record {
-      out = rest.out; is = rest.is; long = rest.long ∙ length-set rs q.0 (Some n);
+      out = rest.out;
+      is = rest.is;
+      long = rest.long ∙ length-set rs q.0 (Some n);
       kept = λ r h. rest.kept r (put_kept width rs q.0 n r (width_of p.layout q.1) fits.0.1 small.0 h);
       new = λ r e. or2 (q.0 == r) (is_among params r) e
           (λ h. rest.kept r (subst (λ (x : ℕ). Held width (put q.0 n rs) x) (eqb-true q.0 r h) (put_here width rs q.0 n (width_of p.layout q.1) (subst (λ (x : ℕ). q.0 < x) long fits.0.0) fits.0.1 small.0)))
@@ -153,12 +153,12 @@ module _ (p : Program) (safe : IsSafe p) where
       let first : (b : Block) × (slice_get g.blocks 0 ≡ Some b) = first_block g.blocks def in
       let code : code_of g 0 ≡ first.0.instrs = ap code_in first.1 in
       let none : phi_count first.0.instrs ≡ 0 = no_phis first.0.instrs
-            (subst (λ (l : List Instr). 0 < length l) code (good.some 0 (slice_get_within g.blocks 0 first.0 first.1)))
-            (λ i e. good.entry i (ap (λ (l : List Instr). slice_get l 0) code ∙ e)) in
+      (subst (λ (l : List Instr). 0 < length l) code (good.some 0 (slice_get_within g.blocks 0 first.0 first.1)))
+      (λ i e. good.entry i (ap (λ (l : List Instr). slice_get l 0) code ∙ e)) in
       let f : IsFrameOf p safe (record { function = k; block = 0; at = phi_count first.0.instrs; registers = made.out; saved = saved }) =
-            at_begin p safe k g 0 saved first.0 made.out [] is def first.1 refl on (made.long ∙ length-replicate {A = Option ℕ} (length g.registers) None)
-                (λ r h. made.new r h)
-                (λ r h. absurd (true≢false (sym (sym (ap (λ (n : ℕ). assigns r (take n first.0.instrs)) none) ∙ h)))) in
+      at_begin p safe k g 0 saved first.0 made.out [] is def first.1 refl on (made.long ∙ length-replicate {A = Option ℕ} (length g.registers) None)
+      (λ r h. made.new r h)
+      (λ r h. absurd (true≢false (sym (sym (ap (λ (n : ℕ). assigns r (take n first.0.instrs)) none) ∙ h)))) in
       record {
         frame = record { function = k; block = 0; at = 0; registers = made.out; saved = saved };
         is = ap (λ (o : Option Registers). given None o (λ registers. Some (record { function = k; block = 0; at = 0; registers = registers; saved = saved }))) made.is;
@@ -167,7 +167,7 @@ module _ (p : Program) (safe : IsSafe p) where
       }
 
   pub enters : (s : State) (is : IsStateOf p safe s) (k : ℕ) (g : Function) (ns : List ℕ) → function_at p k ≡ Some g → is_declared g ≡ false → AreBelow ns (param_widths p g.params)
-      → IsCallerOf p safe (bits p g.result) s.frame → ((w : IsCallerOf p safe (bits p g.result) s.frame) → AreCallers p safe (bits p w.stands.function.result) s.callers) → Fine p safe (entered k g ns s).next
+      → (caller : IsCallerOf p safe (bits p g.result) s.frame) → AreCallers p safe (bits p caller.stands.function.result) s.callers → Fine p safe (entered k g ns s).next
   enters s is k g ns found def small caller callers = by_room (nat_lt s.sp (stack_start + call_room)) refl
     where
       by_room : (b : Bool) → nat_lt s.sp (stack_start + call_room) ≡ b → Fine p safe (if b then trapping StackOverflow else called k ns (s.sp - call_room) s (entry_frame k g ns s.sp)).next
@@ -179,4 +179,4 @@ module _ (p : Program) (safe : IsSafe p) where
           let low : stack_start ≤ s.sp - call_room = omega (arith, room) in
           let high : s.sp - call_room ≤ stack_end = omega (arith, most) in
           subst (λ (o : Option Frame). Fine p safe (called k ns (s.sp - call_room) s o).next) (sym at.is)
-              (state_of p safe at.frame g (s.frame ∷ s.callers) (s.sp - call_room) s.byte s.heap s.input (ap (function_at p) at.same ∙ found) at.of (caller, callers caller) (low, high) is.heap is.input)
+          (state_of p safe at.frame g (s.frame ∷ s.callers) (s.sp - call_room) s.byte s.heap s.input (ap (function_at p) at.same ∙ found) at.of (caller, callers) (low, high) is.heap is.input)

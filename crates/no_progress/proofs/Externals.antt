@@ -1,39 +1,24 @@
 -- What externals give: numbers of the width of their result, live blocks, and an input of bytes.
-use Rattle.std.proofs.Common.{◌≡◌, ◌⊎◌, inl, inr, ⊎_elim, ℕ, zero, suc, ◌+◌, ◌-◌, ◌*◌, ◌/◌, ◌%◌, ◌^◌, ◌<◌, ◌≤◌, ◌==◌, ◌||◌, ◌&&◌, nat_lt, nat_le, int_le, Bool, true, false, true≢false, eqb-true, Option, Some, None, is_some, if◌then◌else◌, List, [], ◌∷◌, length, map, refl, sym, ap, ◌∙◌, subst, arith, bytes_eq, drop, codes, pow_mono, pow_pos, pow-suc, mul-le-mul_right}
-use Rattle.std.specs.Int.{bytes_low_first}
-use Rattle.std.proofs.lemmas.Bool.{lt-ltb}
+use Rattle.std.proofs.Common.{◌≡◌, ℕ, Bool, true, false, true≢false, eqb-true, Option, Some, None, if◌then◌else◌, List, [], ◌∷◌, length, map, refl, sym, ap, ◌∙◌, subst, bytes_eq, drop, codes}
 use Rattle.std.proofs.lemmas.Option.{same_Some, none-some}
 use Rattle.no_ir.specs.declared.types.Ty.{Ty, out-Ty}
 use Rattle.no_ir.specs.declared.types.Ty.TheOpen.{Ty-F}
 use Rattle.no_ir.specs.declared.function.Function.{Function}
 use Rattle.no_ir.specs.declared.function.Role.{Role}
 use Rattle.no_ir.specs.declared.function.Role.TheVariants.{Source, Part}
-use Rattle.no_ir.specs.declared.ending.Trap.{Trap}
-use Rattle.no_eval.specs.Numbers.{signed}
-use Rattle.no_heap.specs.declared.block.Block.{Block}
-use Rattle.no_heap.specs.Blocks.{AreLive, set_block, size_at}
-use Rattle.no_heap.specs.Fit.{IsFit, FitsAt, fit, rounded}
-use Rattle.no_heap.proofs.Gaps.{fit_is}
-use Rattle.no_heap.proofs.Placing.{placed_live, freed_live}
-use Rattle.no_layout.specs.Memory.{refusal, read_bytes}
-use Rattle.no_layout.specs.Orders.{big_of, swapped}
 use Rattle.no_layout.specs.declared.layout.Layout.{Layout}
-use Rattle.no_layout.specs.declared.memory.Regions.{Regions}
 use Rattle.no_module.specs.declared.external.External.{External}
 use Rattle.no_module.specs.declared.external.External.TheVariants as external
 use Rattle.no_module.specs.declared.scalar.Scalar.{Scalar}
 use Rattle.no_module.specs.declared.scalar.Scalar.TheVariants as scalar
-use Rattle.no_module.specs.Externals.{library_named, mark_named, width_word, at_least, width_behind, sized, integer_named, helper_named, ranged, memory_named, or_else, other_named, plain_row, or_plain, row_named, gives as gives', pairs_up, has_type as is_typed, typed_row, external_in, external_typed, external_of}
+use Rattle.no_module.specs.Externals.{library_named, mark_named, width_word, at_least, width_behind, sized, integer_named, helper_named, ranged, memory_named, or_else, other_named, plain_row, or_plain, row_named, gives as gives', has_type as is_typed, typed_row, external_in, external_typed, external_of}
 use Rattle.no_module.specs.Functions.{begins_with, is_declared}
-use Rattle.no_module.specs.Scalars.{each_meets, integer, is_integer, is_of, is_param, is_pointer, scalar_of, scalar_step, is_void, takes, void_step}
+use Rattle.no_module.specs.Scalars.{is_of, is_param, scalar_step, is_void, takes, void_step}
 use Rattle.no_module.specs.Widths.{is_width}
-use Rattle.no_semantics.specs.Externals.{World, Effect, Outcome, Gives, Does, Exits, Traps, Over, Stuck, still, seeking, gives, cost_of, next_of, rest_of, do_getchar, do_putchar, room_of, text_length, put_text, do_puts, placed, place_or_null, do_malloc, cleared, do_calloc, do_free, put_bytes, first_refusal, do_move, do_set, valued, is_swapped_width, is_compared_width, are_below, do_swap, chosen, do_umin, do_umax, do_smin, do_smax, do_exit, do_abort, do_external}
+use Rattle.no_semantics.specs.Externals.{is_swapped_width, is_compared_width}
 use Rattle.no_semantics.specs.Values.{Program, width_of, width_step}
-use Rattle.no_progress.specs.Proper.{Each, bits}
-use Rattle.no_progress.proofs.Reading.{AreBelow, low}
-use Rattle.no_progress.proofs.Frames.{cases, or2}
+use Rattle.no_progress.specs.Proper.{bits}
 use Rattle.no_progress.proofs.Entering.{and_parts, param_widths}
-use Rattle.no_progress.proofs.Stepping.{ValueFits}
 
 -- ---- types
 
@@ -159,10 +144,12 @@ fits_else (Some e) y f g = f
 memory_fits : (name : List ℕ) → NameFits (external_in (memory_named name))
 memory_fits name =
     elim (width_behind 32 (codes "llvm.memcpy.p0.p0.") name) as (λ o. NameFits (external_in (ranged external.Move o (ranged external.Move (width_behind 32 (codes "llvm.memmove.p0.p0.") name) (ranged external.Set (width_behind 32 (codes "llvm.memset.p0.") name) None))))) [
-      None ↦ elim (width_behind 32 (codes "llvm.memmove.p0.p0.") name) as (λ o. NameFits (external_in (ranged external.Move o (ranged external.Set (width_behind 32 (codes "llvm.memset.p0.") name) None)))) [
-        None ↦ elim (width_behind 32 (codes "llvm.memset.p0.") name) as (λ o. NameFits (external_in (ranged external.Set o None))) [ None ↦ tt | Some w ↦ tt ]
-      | Some w ↦ tt ]
-    | Some w ↦ tt ]
+      | None ↦ elim (width_behind 32 (codes "llvm.memmove.p0.p0.") name) as (λ o. NameFits (external_in (ranged external.Move o (ranged external.Set (width_behind 32 (codes "llvm.memset.p0.") name) None)))) [
+        | None ↦ elim (width_behind 32 (codes "llvm.memset.p0.") name) as (λ o. NameFits (external_in (ranged external.Set o None))) [ None ↦ tt | Some w ↦ tt ]
+        | Some w ↦ tt
+      ]
+      | Some w ↦ tt
+    ]
 
 fits_plain : (o : Option External) → NameFits o → NameFits (external_in (plain_row o))
 fits_plain None f = tt
@@ -171,8 +158,9 @@ fits_plain (Some e) f = f
 pub row_fits : (role : Role) (name : List ℕ) → NameFits (external_in (row_named role name))
 row_fits role name =
     (elim (memory_named name) as (λ r. NameFits (external_in r) → NameFits (external_in (or_plain r (other_named role name)))) [
-      None ↦ λ f. fits_plain (other_named role name) (fits_else (library_named name) (or_else (mark_named name) (or_else (integer_named name) (helper_named role name))) (library_fits name) (fits_else (mark_named name) (or_else (integer_named name) (helper_named role name)) (mark_fits name) (fits_else (integer_named name) (helper_named role name) (integer_fits name) (helper_fits role name))))
-    | Some r ↦ λ f. f ]) (memory_fits name)
+      | None ↦ λ f. fits_plain (other_named role name) (fits_else (library_named name) (or_else (mark_named name) (or_else (integer_named name) (helper_named role name))) (library_fits name) (fits_else (mark_named name) (or_else (integer_named name) (helper_named role name)) (mark_fits name) (fits_else (integer_named name) (helper_named role name) (integer_fits name) (helper_fits role name))))
+      | Some r ↦ λ f. f
+    ]) (memory_fits name)
 
 -- an external by its name and type
 pub record IsExternal (e : External) (t : Ty) (ps : List (ℕ × Ty)) : Type 0 where
@@ -187,8 +175,9 @@ by_type t ps e x size false typed fits same = absurd (none-some e same)
 from_name : (role : Role) (name : List ℕ) (t : Ty) (ps : List (ℕ × Ty)) (e : External) → external_typed role name t ps ≡ Some e → IsExternal e t ps
 from_name role name t ps e is =
     (elim (row_named role name) as (λ r. NameFits (external_in r) → typed_row r t ps ≡ Some e → IsExternal e t ps) [
-      None ↦ λ f same. absurd (none-some e same)
-    | Some r ↦ λ f same. by_type t ps e r.external r.length (is_typed r.external r.length t ps) refl f same ]) (row_fits role name) is
+      | None ↦ λ f same. absurd (none-some e same)
+      | Some r ↦ λ f same. by_type t ps e r.external r.length (is_typed r.external r.length t ps) refl f same
+    ]) (row_fits role name) is
 
 pub is_external : (role : Role) (g : Function) (e : External) → external_of role g ≡ Some e → IsExternal e g.result g.params
 is_external role g e is = by_declared (is_declared g) is

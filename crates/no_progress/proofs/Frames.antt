@@ -1,5 +1,5 @@
 -- Frames that stay frames of their program: at the next place, behind an edge, at an entry.
-use Rattle.std.proofs.Common.{◌≡◌, ◌⊎◌, inl, inr, ⊎_elim, ℕ, zero, suc, ◌+◌, ◌-◌, ◌^◌, ◌<◌, ◌≤◌, ◌==◌, ◌||◌, Bool, true, false, true≢false, eqb-true, Option, Some, None, if◌then◌else◌, List, [], ◌∷◌, ◌++◌, length, map, flat_map, take, take_all, slice_get, slice_set, Contains, refl, sym, ap, ◌∙◌, subst, arith, length-set}
+use Rattle.std.proofs.Common.{◌≡◌, ◌⊎◌, inl, inr, ⊎_elim, ℕ, zero, suc, ◌+◌, ◌^◌, ◌<◌, ◌==◌, ◌||◌, Bool, true, false, true≢false, eqb-true, Option, Some, None, if◌then◌else◌, List, [], ◌∷◌, length, map, flat_map, take, take_all, slice_get, Contains, refl, sym, ap, ◌∙◌, subst, arith, length-set}
 use Rattle.std.specs.List.{list_any}
 use Rattle.std.proofs.lemmas.List.Folds.{list_any_more}
 use Rattle.std.proofs.lemmas.Option.{same_Some, none-some, slice_get_within, slice_get_cases, get_or_from_slice_get}
@@ -13,14 +13,14 @@ use Rattle.no_ir.specs.declared.instruction.Instr.{Instr}
 use Rattle.no_ir.specs.declared.function.Block.{Block}
 use Rattle.no_ir.specs.declared.function.Function.{Function}
 use Rattle.no_module.specs.Functions.{is_declared}
-use Rattle.no_paths.specs.Paths.{registers_of, uses, phi_uses, pair_use, labels_of, code_in, code_of, uses_in, uses_at, phi_uses_in, phi_uses_at, labels_in, exits, block_of, successors, PathTo, is_result, assigns, is_among, is_parameter, assigned, assigned_at, IsAssignedAt, IsAssigned}
+use Rattle.no_paths.specs.Paths.{registers_of, uses, phi_uses, pair_use, code_in, code_of, uses_in, uses_at, PathTo, is_result, assigns, assigned, assigned_at}
 use Rattle.no_semantics.specs.Registers.{Registers, given, with_front, operand_of}
-use Rattle.no_semantics.specs.States.{Frame, State, function_at, block_at, instr_at, put, put_into, moved, assigned as given_result, answered}
-use Rattle.no_semantics.specs.Control.{Move, taken, with_register, phi_move, phi_front, phi_moves, one_more, phi_count, put_all}
+use Rattle.no_semantics.specs.States.{Frame, function_at, instr_at, put, put_into, moved, assigned as given_result}
+use Rattle.no_semantics.specs.Control.{Move, taken, with_register, phi_moves, one_more, phi_count, put_all}
 use Rattle.no_semantics.specs.Values.{Program, width_of}
-use Rattle.no_progress.specs.Proper.{Each, Reads, ReadsOf, Gives, Idle, Answers, PhiFits, FrontFits, EdgeFits, IsTarget, IsProper, IsSafe, is_phi, is_last}
-use Rattle.no_progress.specs.Valid.{Held, IsOnStack, IsFrameOf, IsCallerOf, AreCallers, IsStateOf}
-use Rattle.no_progress.proofs.Reading.{AreHeld, Has, has, put_here, put_kept, set_here}
+use Rattle.no_progress.specs.Proper.{Each, Reads, Gives, Idle, PhiFits, FrontFits, EdgeFits, IsProper, IsSafe, is_phi, is_last}
+use Rattle.no_progress.specs.Valid.{Held, IsOnStack, IsFrameOf}
+use Rattle.no_progress.proofs.Reading.{AreHeld, Has, has, put_here, put_kept}
 
 pub cases : (b : Bool) → (b ≡ true) ⊎ (b ≡ false)
 cases true = inl refl
@@ -64,7 +64,7 @@ module _ (g : Function) (before : List ℕ) (b k : ℕ) (i : Instr) (is : slice_
   split r e old new = or2 (assigned g before r) (assigns r (take (k + 1) (code_of g b))) e
       (λ h. old (or_left (assigned g before r) (assigns r (take k (code_of g b))) h))
       (λ h. or2 (assigns r (take k (code_of g b))) (is_result r i.result) (sym (assigns_now r) ∙ h)
-          (λ j. old (or_right (assigned g before r) (assigns r (take k (code_of g b))) j)) new)
+      (λ j. old (or_right (assigned g before r) (assigns r (take k (code_of g b))) j)) new)
 
 -- ---- results
 
@@ -112,11 +112,11 @@ pub taken_used : (l r : ℕ) (pairs : List (Operand × ℕ)) → taken l pairs �
 taken_used l r [] e = absurd (none-some (operand.Reg r) e)
 taken_used l r (pair ∷ more) e = ⊎_elim
     (λ same.
-      let it : pair.0 ≡ operand.Reg r = same_Some pair.0 (operand.Reg r) (sym (ap (λ (b : Bool). if b then Some pair.0 else taken l more) same) ∙ e) in
-      let label : pair.1 ≡ l = eqb-true pair.1 l same in
-      Contains-append_left (pair_use pair) (flat_map pair_use more) (r, l)
-          (subst (λ (k : ℕ). Contains {X = ℕ × ℕ} (pair_use pair) (r, k)) label
-              (subst (λ (o : Operand). Contains {X = ℕ × ℕ} (map (λ q. (q, pair.1)) (registers_of o)) (r, pair.1)) (sym it) (0, omega arith, refl))))
+    let it : pair.0 ≡ operand.Reg r = same_Some pair.0 (operand.Reg r) (sym (ap (λ (b : Bool). if b then Some pair.0 else taken l more) same) ∙ e) in
+    let label : pair.1 ≡ l = eqb-true pair.1 l same in
+    Contains-append_left (pair_use pair) (flat_map pair_use more) (r, l)
+    (subst (λ (k : ℕ). Contains {X = ℕ × ℕ} (pair_use pair) (r, k)) label
+    (subst (λ (o : Operand). Contains {X = ℕ × ℕ} (map (λ q. (q, pair.1)) (registers_of o)) (r, pair.1)) (sym it) (0, omega arith, refl))))
     (λ differ. Contains-append_right (pair_use pair) (flat_map pair_use more) (r, l) (taken_used l r more (sym (ap (λ (b : Bool). if b then Some pair.0 else taken l more) differ) ∙ e)))
     (cases (pair.1 == l))
 
@@ -221,8 +221,8 @@ pub behind_phis : (code : List Instr) → 0 < length code → ((k : ℕ) (i : In
 behind_phis [] some more = absurd (omega (arith, some))
 behind_phis (i ∷ code) some more = ⊎_elim
     (λ phi.
-      let rest : Behind code = behind_phis code (let lt : 0 + 1 < length (i ∷ code) = more 0 i refl phi in omega (arith, lt)) (λ k j e f. let lt : suc k + 1 < length (i ∷ code) = more (suc k) j e f in omega (arith, lt)) in
-      record { instr = rest.instr; is = ap (slice_get (i ∷ code)) (count_phi i.op (phi_count code) phi) ∙ rest.is; plain = rest.plain })
+    let rest : Behind code = behind_phis code (let lt : 0 + 1 < length (i ∷ code) = more 0 i refl phi in omega (arith, lt)) (λ k j e f. let lt : suc k + 1 < length (i ∷ code) = more (suc k) j e f in omega (arith, lt)) in
+    record { instr = rest.instr; is = ap (slice_get (i ∷ code)) (count_phi i.op (phi_count code) phi) ∙ rest.is; plain = rest.plain })
     (λ none. record { instr = i; is = ap (slice_get (i ∷ code)) (count_none i.op (phi_count code) none); plain = none })
     (cases (is_phi i.op))
 
@@ -244,10 +244,15 @@ module _ (p : Program) (safe : IsSafe p) where
     further goes rs long old new =
         let next : (i : Instr) × (slice_get (code_of of.function f.block) (f.at + 1) ≡ Some i) = found (code_of of.function f.block) (f.at + 1) (fine.inner f.block f.at of.instr of.instr_is goes) in
         record {
-          function = of.function; function_is = of.function_is; is_defined = of.is_defined; long = long ∙ of.long;
-          instr = next.0; instr_is = next.1;
+          function = of.function;
+          function_is = of.function_is;
+          is_defined = of.is_defined;
+          long = long ∙ of.long;
+          instr = next.0;
+          instr_is = next.1;
           plain = ⊎_elim (λ phi. absurd (true≢false (sym (fine.lead f.block f.at of.instr next.0 of.instr_is next.1 phi) ∙ of.plain))) (λ none. none) (cases (is_phi next.0.op));
-          before = of.before; path = of.path;
+          before = of.before;
+          path = of.path;
           holds = λ r e. split of.function of.before f.block f.at of.instr of.instr_is r e (λ h. old r (of.holds r h)) (λ h. new r h);
           saved = of.saved;
         }
@@ -275,9 +280,9 @@ module _ (p : Program) (safe : IsSafe p) where
           let end : f.at + 1 ≡ length (code_of of.function f.block) = fine.last f.block f.at of.instr of.instr_is ends in
           let all : take (f.at + 1) (code_of of.function f.block) ≡ code_of of.function f.block = take_all (f.at + 1) (code_of of.function f.block) (omega (arith, end)) in
           split of.function of.before f.block f.at of.instr of.instr_is r
-              (ap (λ (l : List Instr). assigned of.function of.before r || assigns r l) all ∙ e)
-              (λ h. of.holds r h)
-              (λ h. idle_held f.registers r h (fine.idle f.block f.at of.instr of.instr_is ends))
+          (ap (λ (l : List Instr). assigned of.function of.before r || assigns r l) all ∙ e)
+          (λ h. of.holds r h)
+          (λ h. idle_held f.registers r h (fine.idle f.block f.at of.instr of.instr_is ends))
 
   -- a frame of function g behind the phis of block b
   pub at_begin : (k : ℕ) (g : Function) (b saved : ℕ) (block : Block) (rs : Registers) (before : List ℕ) (is : function_at p k ≡ Some g) (def : is_declared g ≡ false) → slice_get g.blocks b ≡ Some block → PathTo g b before → IsOnStack saved
@@ -292,9 +297,15 @@ module _ (p : Program) (safe : IsSafe p) where
       let some : 0 < length block.instrs = subst (λ (l : List Instr). 0 < length l) code (good.some b (slice_get_within g.blocks b block block_is)) in
       let first : Behind block.instrs = behind_phis block.instrs some (λ j i e phi. subst (λ (l : List Instr). j + 1 < length l) code (good.inner b j i (ap (λ (l : List Instr). slice_get l j) code ∙ e) (phi_goes_on i.op phi))) in
       record {
-        function = g; function_is = is; is_defined = def; long = long;
-        instr = first.instr; instr_is = ap (λ (l : List Instr). slice_get l (phi_count block.instrs)) code ∙ first.is; plain = first.plain;
-        before = before; path = path;
+        function = g;
+        function_is = is;
+        is_defined = def;
+        long = long;
+        instr = first.instr;
+        instr_is = ap (λ (l : List Instr). slice_get l (phi_count block.instrs)) code ∙ first.is;
+        plain = first.plain;
+        before = before;
+        path = path;
         holds = λ r e. or2 (assigned g before r) (assigns r (take (phi_count block.instrs) (code_of g b))) e (λ h. old r h)
             (λ h. new r (sym (ap (λ (l : List Instr). assigns r (take (phi_count block.instrs) l)) code) ∙ h));
         saved = on;

@@ -5,3 +5,6 @@ pub mod Stepping
 pub mod Entering
 pub mod Externals
 pub mod Effects
+pub mod Calling
+pub mod Acts
+pub mod Beginning

@@ -1,16 +1,15 @@
 -- Operands that are read, and the widths of what instructions give.
-use Rattle.std.proofs.Common.{◌≡◌, ◌⊎◌, inl, inr, ⊎_elim, ℕ, zero, suc, ◌+◌, ◌%◌, ◌^◌, ◌<◌, ◌≤◌, ◌==◌, nat_lt, Bool, true, false, true≢false, eqb-true, eq-eqb, Option, Some, None, option_map, Result, Ok, Err, if◌then◌else◌, IfOk, List, [], ◌∷◌, ◌++◌, length, map, flat_map, slice_get, slice_set, Contains, refl, sym, ap, ◌∙◌, subst, arith, mod-lt, pow_pos, length-set, get_or, get_or-set_same, get_or-set_other, set}
+use Rattle.std.proofs.Common.{◌≡◌, ◌⊎◌, inl, inr, ⊎_elim, ℕ, ◌%◌, ◌^◌, ◌<◌, ◌==◌, Bool, true, false, true≢false, eqb-true, eq-eqb, Option, Some, None, option_map, if◌then◌else◌, List, [], ◌∷◌, ◌++◌, length, map, flat_map, slice_get, slice_set, Contains, refl, sym, ap, ◌∙◌, subst, arith, pow_pos, length-set, get_or-set_same, get_or-set_other, set}
 use Rattle.std.proofs.lemmas.Bool.{lt-ltb}
-use Rattle.std.proofs.lemmas.Option.{same_Some, none-some, slice_get_within, slice_get_read, get_or_from_slice_get}
+use Rattle.std.proofs.lemmas.Option.{same_Some, slice_get_within, slice_get_read, get_or_from_slice_get}
 use Rattle.std.proofs.lemmas.List.Elements.{Contains-append_left, Contains-append_right}
-use Rattle.no_ir.specs.declared.types.Ty.{Ty}
 use Rattle.no_ir.specs.declared.constant.Const.{Const}
 use Rattle.no_ir.specs.declared.instruction.Operand.{Operand}
 use Rattle.no_ir.specs.declared.instruction.Operand.TheVariants as operand
 use Rattle.no_paths.specs.Paths.{registers_of}
-use Rattle.no_semantics.specs.Registers.{Registers, given, with_front, all_given, below, held_below, register, constant_number, operand, operand_of}
-use Rattle.no_semantics.specs.Values.{Program, width_of}
-use Rattle.no_progress.specs.Proper.{Each, Reads, ReadsOf}
+use Rattle.no_semantics.specs.Registers.{Registers, with_front, all_given, below, held_below, constant_number, operand}
+use Rattle.no_semantics.specs.Values.{Program}
+use Rattle.no_progress.specs.Proper.{Each, Reads}
 use Rattle.no_progress.specs.Valid.{Held}
 
 -- ---- registers that are used
@@ -59,17 +58,19 @@ pub each_has : {A : Type 0} (p : Program) (rs : Registers) (w : A → ℕ) (o : 
     → (ns : List ℕ) × (all_given (map (λ (x : A). operand p (w x) rs (o x)) xs) ≡ Some ns) × AreBelow ns (map w xs)
 each_has p rs w o [] h = ([], refl, tt)
 each_has p rs w o (x ∷ xs) h =
-    let rest = each_has p rs w o xs h.1 in
-    (h.0.0 ∷ rest.0,
-     ap (λ (y : Option ℕ). with_front y (all_given (map (λ x. operand p (w x) rs (o x)) xs))) h.0.1 ∙ ap (with_front (Some h.0.0)) rest.1,
-     (h.0.2, rest.2))
+    let rest = each_has p rs w o xs h.1 in (
+      h.0.0 ∷ rest.0,
+      ap (λ (y : Option ℕ). with_front y (all_given (map (λ x. operand p (w x) rs (o x)) xs))) h.0.1 ∙ ap (with_front (Some h.0.0)) rest.1,
+      (h.0.2, rest.2),
+    )
 
 pub each_of_uses : {A : Type 0} (p : Program) (width : ℕ → Option ℕ) (rs : Registers) (w : A → ℕ) (o : A → Operand) (xs : List A) → Each (λ (x : A). Reads p width (w x) (o x)) xs
     → AreHeld width rs (flat_map (λ (x : A). registers_of (o x)) xs) → Each (λ (x : A). Has p rs (w x) (o x)) xs
 each_of_uses p width rs w o [] reads h = tt
-each_of_uses p width rs w o (x ∷ xs) reads h =
-    (has p width rs (w x) (o x) reads.0 (held_left width rs (registers_of (o x)) (flat_map (λ x. registers_of (o x)) xs) h),
-     each_of_uses p width rs w o xs reads.1 (held_right width rs (registers_of (o x)) (flat_map (λ x. registers_of (o x)) xs) h))
+each_of_uses p width rs w o (x ∷ xs) reads h = (
+  has p width rs (w x) (o x) reads.0 (held_left width rs (registers_of (o x)) (flat_map (λ x. registers_of (o x)) xs) h),
+  each_of_uses p width rs w o xs reads.1 (held_right width rs (registers_of (o x)) (flat_map (λ x. registers_of (o x)) xs) h),
+)
 
 -- ---- registers that are assigned
 
@@ -80,7 +81,7 @@ set_here rs r n lt =
 pub set_other : (rs : Registers) (r q n m : ℕ) → (r ≡ q → ⊥) → slice_get rs q ≡ Some (Some m) → slice_get (slice_set rs r (Some n)) q ≡ Some (Some m)
 set_other rs r q n m differ e =
     slice_get_read (set rs r (Some n)) (length rs) q (Some m) (sym (length-set rs r (Some n))) (slice_get_within rs q (Some m) e)
-        (sym (get_or-set_other rs r q (Some n) (Some m) (λ e. differ (sym e)) ∙ get_or_from_slice_get rs q (Some m) (Some m) e))
+    (sym (get_or-set_other rs r q (Some n) (Some m) (λ e. differ (sym e)) ∙ get_or_from_slice_get rs q (Some m) (Some m) e))
 
 -- a register that gets a number of its width, and one that held such a number before
 pub put_here : (width : ℕ → Option ℕ) (rs : Registers) (r n w : ℕ) → r < length rs → width r ≡ Some w → n < 2 ^ w → Held width (slice_set rs r (Some n)) r
@@ -89,9 +90,9 @@ put_here width rs r n w lt is small v e = (n, set_here rs r n lt, subst (λ (x :
 pub put_kept : (width : ℕ → Option ℕ) (rs : Registers) (r n q w : ℕ) → width r ≡ Some w → n < 2 ^ w → Held width rs q → Held width (slice_set rs r (Some n)) q
 put_kept width rs r n q w is small h v e = ⊎_elim
     (λ same.
-      let at : r ≡ q = eqb-true r q same in
-      let lt : r < length rs = subst (λ (x : ℕ). x < length rs) (sym at) (slice_get_within rs q (Some (h v e).0) (h v e).1) in
-      (subst (λ (x : ℕ). Held width (slice_set rs r (Some n)) x) at (put_here width rs r n w lt is small)) v e)
+    let at : r ≡ q = eqb-true r q same in
+    let lt : r < length rs = subst (λ (x : ℕ). x < length rs) (sym at) (slice_get_within rs q (Some (h v e).0) (h v e).1) in
+    (subst (λ (x : ℕ). Held width (slice_set rs r (Some n)) x) at (put_here width rs r n w lt is small)) v e)
     (λ differ. ((h v e).0, set_other rs r q n (h v e).0 (λ f. true≢false (sym (eq-eqb r q f) ∙ differ)) (h v e).1, (h v e).2))
     (cases (r == q))
   where

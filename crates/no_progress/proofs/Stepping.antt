@@ -1,35 +1,25 @@
 -- Instructions that leave a state one of its program: values, memory, branches, returns and entries.
-use Rattle.std.proofs.Common.{◌≡◌, ◌⊎◌, inl, inr, ⊎_elim, ℕ, zero, suc, ◌+◌, ◌-◌, ◌^◌, ◌<◌, ◌≤◌, ◌==◌, ◌||◌, ◌&&◌, nat_lt, Bool, true, false, true≢false, eqb-true, Option, Some, None, if◌then◌else◌, List, [], ◌∷◌, ◌++◌, length, map, flat_map, take, replicate, slice_get, slice_set, Contains, refl, sym, ap, ◌∙◌, subst, arith, length-set}
-use Rattle.std.specs.List.{list_any}
-use Rattle.std.proofs.lemmas.Bool.{ltb-false}
-use Rattle.std.proofs.lemmas.List.{length-replicate}
-use Rattle.std.proofs.lemmas.Option.{same_Some, none-some, slice_get_within}
-use Rattle.no_ir.specs.declared.types.Ty.{Ty}
+use Rattle.std.proofs.Common.{◌≡◌, ℕ, ◌^◌, ◌<◌, ◌==◌, Bool, true, false, Option, Some, None, if◌then◌else◌, List, [], ◌∷◌, length, slice_get, Contains, refl, sym, ap, ◌∙◌, subst}
+use Rattle.std.proofs.lemmas.Option.{same_Some, none-some}
 use Rattle.no_ir.specs.declared.ending.Trap.{Trap}
-use Rattle.no_ir.specs.declared.instruction.Operand.{Operand}
-use Rattle.no_ir.specs.declared.instruction.Op.{Op}
-use Rattle.no_ir.specs.declared.instruction.Op.TheVariants as op
 use Rattle.no_ir.specs.declared.instruction.Instr.{Instr}
 use Rattle.no_ir.specs.declared.function.Block.{Block}
 use Rattle.no_ir.specs.declared.function.Function.{Function}
 use Rattle.no_heap.specs.declared.block.Block as heap'
 use Rattle.no_heap.specs.Blocks.{AreLive}
-use Rattle.no_layout.specs.Memory.{refusal, stack_start, stack_end}
-use Rattle.no_module.specs.Functions.{is_declared, no_blocks}
-use Rattle.no_paths.specs.Paths.{registers_of, uses, phi_uses, phi_uses_in, phi_uses_at, code_in, code_of, block_of, successors, PathTo, assigns, is_among, is_parameter, assigned, IsAssignedAt}
-use Rattle.no_semantics.specs.Registers.{Registers, given, operand, operand_of, pointer_of, argument_of}
-use Rattle.no_semantics.specs.Results.{Valued, Number, Traps, NoValue, load_value, bytes_of_type, alloca_value}
-use Rattle.no_semantics.specs.Rows.{Row, Next, Calling, Goes, Leaves, Ends, Stuck, plain, stuck, trapping, going, in_frame, computed}
-use Rattle.no_semantics.specs.States.{Frame, State, function_at, instr_at, put, moved, assigned as given_result, answered}
-use Rattle.no_semantics.specs.Control.{block_number, phi_moves, phi_count, put_all, landed, at_block, from_block, branched, arrived, go, case_label, row_br, row_cond_br, row_switch}
-use Rattle.no_semantics.specs.Access.{allocated, row_alloca, fetched, row_load, stored, row_store}
-use Rattle.no_semantics.specs.Calls.{call_room, passed, unassigned, entry_frame, called, entered, returned_in, returned, row_return}
-use Rattle.no_semantics.specs.Values.{Program, width_of}
-use Rattle.no_progress.specs.Proper.{Each, Reads, ReadsOf, Gives, Idle, bits, Answers, EdgeFits, IsTarget, IsProper, IsSafe, is_phi, is_last}
-use Rattle.no_progress.specs.Valid.{Held, IsOnStack, IsFrameOf, IsCallerOf, AreCallers, IsStateOf, Fine}
-use Rattle.no_progress.proofs.Reading.{AreHeld, Has, has, AreBelow, put_here, put_kept}
+use Rattle.no_paths.specs.Paths.{phi_uses_in, phi_uses_at, code_in, code_of}
+use Rattle.no_semantics.specs.Registers.{given}
+use Rattle.no_semantics.specs.Results.{Valued, Number, Traps, NoValue}
+use Rattle.no_semantics.specs.Rows.{Row, stuck, computed}
+use Rattle.no_semantics.specs.States.{Frame, State, function_at, instr_at, moved, assigned as given_result, answered}
+use Rattle.no_semantics.specs.Control.{phi_count, put_all, landed, at_block, from_block, branched, arrived, go, case_label}
+use Rattle.no_semantics.specs.Access.{allocated, fetched, stored}
+use Rattle.no_semantics.specs.Calls.{returned_in, returned}
+use Rattle.no_semantics.specs.Values.{Program}
+use Rattle.no_progress.specs.Proper.{Each, Gives, Idle, bits, Answers, IsTarget, IsProper, IsSafe, is_last}
+use Rattle.no_progress.specs.Valid.{IsOnStack, IsFrameOf, IsCallerOf, AreCallers, IsStateOf, Fine}
 use Rattle.no_progress.proofs.Values.{Good, IsPlace, stack_small}
-use Rattle.no_progress.proofs.Frames.{cases, or2, found, instr_found, put_all_long, put_all_kept, put_all_new, Landing, land, PhisHeld, count_none, fine, used, further, assigning, passing, whole, at_begin}
+use Rattle.no_progress.proofs.Frames.{instr_found, put_all_long, put_all_kept, put_all_new, Landing, land, PhisHeld, fine, assigning, passing, whole, at_begin}
 
 -- what a call waits for, and what is given to it
 abbrev pub ValueFits : Option ℕ → Option ℕ → Type 0
@@ -61,7 +51,9 @@ module _ (p : Program) (safe : IsSafe p) where
       → Answers (length st.function.registers) (fine p safe c st).width into given' → Answered c into value
   answer c st goes None e given' value fits answers = record { frame = moved c; is = refl; same = refl; of = passing p safe c st goes (idle_none (fine p safe c st).width st.instr.result e) }
   answer c st goes (Some r) e (Some w) (Some n) fits answers = record {
-    frame = given_result (Some r) n c; is = refl; same = refl;
+    frame = given_result (Some r) n c;
+    is = refl;
+    same = refl;
     of = subst (λ (x : Option ℕ). IsFrameOf p safe (given_result x n c)) e (assigning p safe c st goes w n (subst (λ (x : Option ℕ). Gives (length st.function.registers) (fine p safe c st).width x w) (sym e) answers) fits);
   }
   answer c st goes (Some r) e None None fits answers = record { frame = moved c; is = refl; same = refl; of = passing p safe c st goes (subst (λ (x : Option ℕ). Idle (fine p safe c st).width x) (sym e) answers) }
@@ -105,20 +97,20 @@ module _ (p : Program) (safe : IsSafe p) where
         let good : IsProper p is.frame.function = fine p safe s.frame is.frame in
         let count : ℕ = length is.frame.function.registers in
         let phis_held : PhisHeld good.width s.frame.registers t.from.label t.block.instrs = λ k i e r c.
-              whole p safe s.frame is.frame ends r ((good.paths t.to k).end is.frame.before r t.from.label s.frame.block
-                  (subst (λ (o : Option Instr). Contains {X = ℕ × ℕ} (phi_uses_in o) (r, t.from.label)) (sym (ap (λ (o : Option Block). slice_get (code_in o) k) t.block_is ∙ e)) c) t.home is.frame.path) in
+        whole p safe s.frame is.frame ends r ((good.paths t.to k).end is.frame.before r t.from.label s.frame.block
+        (subst (λ (o : Option Instr). Contains {X = ℕ × ℕ} (phi_uses_in o) (r, t.from.label)) (sym (ap (λ (o : Option Block). slice_get (code_in o) k) t.block_is ∙ e)) c) t.home is.frame.path) in
         let landing : Landing p count good.width s.frame.registers t.from.label t.block.instrs = land p count good.width s.frame.registers t.from.label t.block.instrs t.phis phis_held in
         let f : Frame = record s.frame { block = t.to; at = phi_count t.block.instrs; registers = put_all landing.moves s.frame.registers } in
         let found_it : branched p s.frame l ≡ Some f =
-              ap (λ (o : Option Function). given None o (λ g. from_block p s.frame g l (slice_get g.blocks s.frame.block))) is.frame.function_is
-              ∙ ap (from_block p s.frame is.frame.function l) t.from_is
-              ∙ ap (at_block p s.frame t.from.label is.frame.function) t.to_is
-              ∙ ap (λ (o : Option Block). given None o (landed p s.frame t.from.label t.to)) t.block_is
-              ∙ ap (λ o. given None o (λ moves. Some (record s.frame { block = t.to; at = phi_count t.block.instrs; registers = put_all moves s.frame.registers }))) landing.are in
+        ap (λ (o : Option Function). given None o (λ g. from_block p s.frame g l (slice_get g.blocks s.frame.block))) is.frame.function_is
+        ∙ ap (from_block p s.frame is.frame.function l) t.from_is
+        ∙ ap (at_block p s.frame t.from.label is.frame.function) t.to_is
+        ∙ ap (λ (o : Option Block). given None o (landed p s.frame t.from.label t.to)) t.block_is
+        ∙ ap (λ o. given None o (λ moves. Some (record s.frame { block = t.to; at = phi_count t.block.instrs; registers = put_all moves s.frame.registers }))) landing.are in
         let of : IsFrameOf p safe f = at_begin p safe s.frame.function is.frame.function t.to s.frame.saved t.block (put_all landing.moves s.frame.registers) (s.frame.block ∷ is.frame.before) is.frame.function_is is.frame.is_defined t.block_is
-              (t.follows, is.frame.path) is.frame.saved (put_all_long landing.moves s.frame.registers ∙ is.frame.long)
-              (λ r h. put_all_kept count good.width landing.moves s.frame.registers r landing.fit (whole p safe s.frame is.frame ends r h))
-              (λ r h. put_all_new count good.width landing.moves s.frame.registers r (sym is.frame.long) landing.fit (landing.assign r ∙ h)) in
+        (t.follows, is.frame.path) is.frame.saved (put_all_long landing.moves s.frame.registers ∙ is.frame.long)
+        (λ r h. put_all_kept count good.width landing.moves s.frame.registers r landing.fit (whole p safe s.frame is.frame ends r h))
+        (λ r h. put_all_new count good.width landing.moves s.frame.registers r (sym is.frame.long) landing.fit (landing.assign r ∙ h)) in
         subst (λ (o : Option Frame). Fine p safe (arrived s o).next) (sym found_it) (stays f refl of s.sp is.sp s.byte s.heap is.heap s.input is.input)
 
     pub chooses : is_last is.frame.instr.op ≡ true → (b : Bool) (l k : ℕ) → IsTarget p is.frame.function (fine p safe s.frame is.frame).width s.frame.block l → IsTarget p is.frame.function (fine p safe s.frame is.frame).width s.frame.block k
@@ -144,6 +136,6 @@ module _ (p : Program) (safe : IsSafe p) where
         let goes : is_last w.stands.instr.op ≡ false = ap is_last w.is_call in
         let a : Answered c w.stands.instr.result value = answer c w.stands goes w.stands.instr.result refl (bits p is.frame.function.result) value fits w.answers in
         let found_it : given None (instr_at p c) (λ (i : Instr). answered i.result value c) ≡ Some a.frame =
-              ap (λ (o : Option Instr). given None o (λ (i : Instr). answered i.result value c)) (instr_found p c w.stands.function w.stands.function_is ∙ w.stands.instr_is) ∙ a.is in
+        ap (λ (o : Option Instr). given None o (λ (i : Instr). answered i.result value c)) (instr_found p c w.stands.function w.stands.function_is ∙ w.stands.instr_is) ∙ a.is in
         subst (λ (o : Option Frame). Fine p safe (returned_in s cs o).next) (sym found_it)
-            (state_of a.frame w.stands.function cs s.frame.saved s.byte s.heap s.input (ap (function_at p) a.same ∙ w.stands.function_is) a.of callers.1 is.frame.saved is.heap is.input)
+        (state_of a.frame w.stands.function cs s.frame.saved s.byte s.heap s.input (ap (function_at p) a.same ∙ w.stands.function_is) a.of callers.1 is.frame.saved is.heap is.input)

@@ -1,5 +1,5 @@
 -- What instructions give is a number of the width of their result.
-use Rattle.std.proofs.Common.{◌≡◌, ℕ, ◌+◌, ◌-◌, ◌*◌, ◌/◌, ◌%◌, ◌^◌, ◌<◌, ◌≤◌, ◌==◌, nat_lt, Bool, true, false, Option, Some, None, Result, Ok, Err, if◌then◌else◌, IfOk, List, map, refl, sym, ap, ◌∙◌, subst, arith, pow_mono, le_trans, div-mul-le_self, sub-le}
+use Rattle.std.proofs.Common.{◌≡◌, ℕ, ◌-◌, ◌*◌, ◌/◌, ◌^◌, ◌<◌, ◌≤◌, ◌==◌, nat_lt, Bool, true, false, Option, Some, None, Result, Ok, Err, if◌then◌else◌, IfOk, List, map, refl, sym, subst, arith, pow_mono, le_trans, div-mul-le_self, sub-le}
 use Rattle.std.proofs.lemmas.Bool.{ltb-false}
 use Rattle.no_ir.specs.declared.types.Ty.{Ty}
 use Rattle.no_ir.specs.declared.ending.Trap.{Trap}
@@ -8,15 +8,15 @@ use Rattle.no_ir.specs.declared.instruction.CastOp.{CastOp}
 use Rattle.no_ir.specs.declared.instruction.Pred.{Pred}
 use Rattle.no_ir.specs.declared.instruction.Operand.{Operand}
 use Rattle.no_eval.specs.Binary.{binary_of}
-use Rattle.no_eval.specs.Cast.{cast_of, GoesBetween}
+use Rattle.no_eval.specs.Cast.{GoesBetween}
 use Rattle.no_eval.specs.Compare.{compare_of}
 use Rattle.no_eval.proofs.Within.{binary_within, cast_within}
-use Rattle.no_layout.specs.Memory.{refusal, read_number, stack_start, stack_end}
+use Rattle.no_layout.specs.Memory.{refusal, stack_start, stack_end}
 use Rattle.no_layout.specs.Sizes.{type_align, type_stride}
 use Rattle.no_semantics.specs.Image.{stated_or}
 use Rattle.no_semantics.specs.Registers.{Registers, given, all_given, operand, index_of}
 use Rattle.no_semantics.specs.Results.{Valued, Number, Traps, NoValue, reading, valued, bit, binary_value, compare_value, cast_value, freeze_value, select_value, gep_value, address_after, in_stack, lowered, stack_place, count_of, alloca_value, bytes_of_type, loaded, load_value}
-use Rattle.no_semantics.specs.Values.{Program, width_of, bytes_of_width}
+use Rattle.no_semantics.specs.Values.{Program, width_of}
 use Rattle.no_progress.specs.Valid.{IsOnStack}
 use Rattle.no_progress.proofs.Reading.{Has, low}
 
@@ -98,7 +98,7 @@ pub alloca_place : (p : Program) (rs : Registers) (sp : ℕ) (t : Ty) (count : O
 unfolding alloca_value
 alloca_place p rs sp t count align n most e =
     subst (λ (o : Option ℕ). IsPlace (reading o (λ n. stack_place (lowered sp (n * type_stride p.layout p.sizes t) (stated_or align (type_align p.layout p.sizes t)))))) (sym e)
-        (lowered_place sp (n * type_stride p.layout p.sizes t) (stated_or align (type_align p.layout p.sizes t)) most)
+    (lowered_place sp (n * type_stride p.layout p.sizes t) (stated_or align (type_align p.layout p.sizes t)) most)
 
 -- a place on the stack is a pointer's number
 pub stack_small : (w n : ℕ) → 32 ≤ w → IsOnStack n → n < 2 ^ w

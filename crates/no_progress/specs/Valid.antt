@@ -1,5 +1,5 @@
 -- When a state is one of a program.
-use Rattle.std.specs.Prelude.{ℕ, ◌+◌, ◌^◌, ◌<◌, ◌≤◌, ◌≡◌, Bool, true, false, List, [], ◌∷◌, length, slice_get, Option, Some, None}
+use Rattle.std.specs.Prelude.{ℕ, ◌^◌, ◌<◌, ◌≤◌, ◌≡◌, true, false, List, [], ◌∷◌, length, slice_get, Option, Some}
 use Rattle.no_ir.specs.declared.types.Ty.{Ty}
 use Rattle.no_ir.specs.declared.instruction.Operand.{Operand}
 use Rattle.no_ir.specs.declared.instruction.Op.TheVariants as op
@@ -13,7 +13,7 @@ use Rattle.no_semantics.specs.Registers.{Registers}
 use Rattle.no_semantics.specs.Rows.{Next, Goes, Leaves, Ends, Stuck}
 use Rattle.no_semantics.specs.States.{Frame, State, function_at}
 use Rattle.no_semantics.specs.Values.{Program}
-use Rattle.no_progress.specs.Proper.{IsProper, IsSafe, Each, Answers, bits, is_phi}
+use Rattle.no_progress.specs.Proper.{IsSafe, Each, Answers, bits, is_phi}
 
 -- a register that something may read holds a number of its width
 abbrev pub Held : (ℕ → Option ℕ) → Registers → ℕ → Type 0
