@@ -4,6 +4,8 @@ pub mod Gaps
 pub mod Telling
 pub mod Restored
 pub mod Placing
+pub mod Indexed
+pub mod Found
 pub mod Merging
 pub mod Comparing
 pub mod Left

@@ -9,15 +9,11 @@ use Rattle.no_heap.specs.declared.block.Block.{Block}
 use Rattle.no_heap.specs.declared.block.TheConstants.{HEAP_START, HEAP_END, MOST_BLOCKS}
 use Rattle.no_heap.specs.Blocks.{IsFormed, IsRising, AreLive, block_end, size_at, set_block, IsBlockAt}
 use Rattle.no_heap.specs.Fit.{first_gap, IsGapAt, fit, rounded}
+use Rattle.no_heap.specs.Search.{Along, gap_index}
 use Rattle.no_heap.proofs.Gaps.{first_fits}
 use Rattle.no_heap.proofs.Ordered.{IsOrdered, nth, ordered_rising, size_here, size_past, behind_some, behind_none, set_below, set_here, set_above}
 
 -- ---- the first gap
-
--- how many blocks stand below the first gap
-abbrev pub gap_index : ℕ → ℕ → List Block → ℕ
-gap_index low size [] = 0
-gap_index low size (b ∷ bs) = if nat_le (low + size) b.at then 0 else suc (gap_index (block_end b) size bs)
 
 abbrev made : ℕ → ℕ → Block
 made p size = record { at = p; size = size }
@@ -41,13 +37,6 @@ put_first low size p (b ∷ bs) some r is = by (nat_le (low + size) b.at) refl i
     by false e i more =
         let rest = more i in
         (ap (λ (xs : List Block). b ∷ xs) rest.0 ∙ sym (set_below b bs p size (omega (arith, rest.1, r.0.some))), omega (arith, rest.1, r.1), rest.2)
-
--- a search for the first gap that has come to the block `i`
-pub record Along (bs : List Block) (size at i : ℕ) : Type 0 where
-  pub gap : first_gap at size (drop i bs) ≡ first_gap HEAP_START size bs
-  pub index : i + gap_index at size (drop i bs) ≡ gap_index HEAP_START size bs
-  pub rising : IsRising at (drop i bs)
-  pub most : at ≤ HEAP_END
 
 pub along_none : (bs : List Block) (size : ℕ) → AreLive bs → Along bs size HEAP_START 0
 along_none bs size r = record { gap = refl; index = omega arith; rising = r.rising; most = omega arith }

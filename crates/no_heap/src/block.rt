@@ -14,6 +14,12 @@ pub const HEAP_END: u32 = 0x1400_0000;
 /// How many blocks may live at once.
 pub const MOST_BLOCKS: usize = 65_536;
 
+/// How many blocks make a run, of which the index keeps one number.
+pub(crate) const RUN: usize = 256;
+
+/// How many runs there are at most.
+pub(crate) const RUNS: usize = MOST_BLOCKS / RUN;
+
 /// A live block: the place of its first byte, and its size in bytes.
 #[derive(Clone, Copy, Debug, PartialEq, Eq)]
 pub struct Block {

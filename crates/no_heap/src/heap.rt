@@ -1,12 +1,14 @@
 ghost use Rattle.std.specs.Prelude.{◌≡◌, ◌<◌, ◌≤◌, ◌%◌, ◌-◌, List, [], length, None, IfOk, IfErr, IfSome, IfNone, vec_len, vec_capacity};
 ghost use Rattle.no_heap.specs.Blocks.{AreLive, set_block, Frees, SaysHeap, TakesOut};
 ghost use Rattle.no_heap.specs.Changes.{AreChanges, Applies};
+ghost use Rattle.no_heap.specs.Index.{AreWidest};
 ghost use Rattle.no_heap.specs.Fit.{rounded as rounded_of, first_gap, fit, IsFit};
 
 use crate::bad::first_bad;
-use crate::block::{Block, Entry, HEAP_END, HEAP_START, HeapError, MOST_BLOCKS};
+use crate::block::{Block, Entry, HEAP_END, HEAP_START, HeapError, MOST_BLOCKS, RUN, RUNS};
 use crate::comparison::compare;
 use crate::gap::{find_gap, rounded};
+use crate::index::{forget, raise_each};
 use crate::leaving::leave;
 use crate::search::find;
 use no_ir::{List, NoMemory, Trap};
@@ -18,6 +20,8 @@ use std::mem;
 #[derive(Debug, Drop)]
 pub struct Heap {
     blocks: Vec<Block>,
+    /// For each 256 blocks in turn a number that no gap in front of one of them exceeds.
+    widest: Vec<u32>,
     /// Room in which a changed list is made.
     spare: Vec<Block>,
 }
@@ -27,25 +31,33 @@ impl Model for Heap {
     ghost use Rattle.no_heap.specs.declared.block.Block.{Block};
     ghost use Rattle.no_heap.specs.declared.block.TheConstants.{MOST_BLOCKS};
     ghost use Rattle.no_heap.specs.Blocks.{AreLive};
+    ghost use Rattle.no_heap.specs.Index.{AreWidest};
 
     ghost Value = { List Block };
 
     ghost view = { λ h. h.blocks.items };
 
-    ghost invariant = { λ h. AreLive h.blocks.items × (MOST_BLOCKS ≤ vec_capacity h.blocks) × (MOST_BLOCKS ≤ vec_capacity h.spare) };
+    ghost invariant = { λ h. AreLive h.blocks.items × AreWidest h.blocks.items h.widest.items × (MOST_BLOCKS ≤ vec_capacity h.blocks) × (MOST_BLOCKS ≤ vec_capacity h.spare) };
 }
 
 impl Heap {
     /// A heap without blocks, with room for 65,536 of them.
+    #[tactic(auto, using(crate::proofs::Indexed::forgotten))]
     pub fn new(alloc: Global) -> Result<Heap, NoMemory>
         ensures empty { IfOk result (λ heap. heap ≡ []) }
     {
         let blocks = Vec::with_capacity(alloc, MOST_BLOCKS)?;
+        let widest = vec![in alloc; HEAP_END; RUNS]?;
         let spare = Vec::with_capacity(alloc, MOST_BLOCKS)?;
-        Ok(Heap { blocks, spare })
+        Ok(Heap {
+            blocks,
+            widest,
+            spare,
+        })
     }
 
     /// The heap of these live blocks, or the first one that may not stand. It takes the room that `new` takes.
+    #[tactic(auto, using(crate::proofs::Indexed::forgotten))]
     pub fn from_blocks(alloc: Global, blocks: &[Block]) -> Result<Heap, HeapError>
         ensures { SaysHeap result blocks.now }
     {
@@ -54,6 +66,7 @@ impl Heap {
         }
         let mut heap = Heap::new(alloc)?;
         heap.blocks.extend_from_slice(blocks)?;
+        forget(&mut heap.widest);
         Ok(heap)
     }
 
@@ -82,7 +95,23 @@ impl Heap {
         if size > (HEAP_END - HEAP_START) as u64 {
             return None;
         }
-        put_first(&mut self.blocks, rounded(size))
+        put_first(&mut self.blocks, &mut self.widest, rounded(size))
+    }
+
+    /// The place that `place` would give a block for so many bytes. No block changes.
+    #[tactic(auto, using(crate::proofs::Gaps::fit_full, crate::proofs::Gaps::fit_large, crate::proofs::Gaps::fit_first))]
+    pub fn place_for(&mut self, size: u64) -> Option<u32>
+        ensures value { result ≡ fit self.old size }
+        ensures same { self.new ≡ self.old }
+        ensures live { AreLive self.new }
+    {
+        if self.blocks.len() == MOST_BLOCKS {
+            return None;
+        }
+        if size > (HEAP_END - HEAP_START) as u64 {
+            return None;
+        }
+        first_place(&mut self.widest, &self.blocks, rounded(size))
     }
 
     /// Takes out the block that begins at an address. Address 0 changes nothing; any other where no live block
@@ -95,7 +124,7 @@ impl Heap {
         if addr == 0 {
             return Ok(());
         }
-        if take_out(blocks, addr) {
+        if take_out(blocks, &mut self.widest, addr) {
             Ok(())
         } else {
             Err(Trap::BadFree)
@@ -113,6 +142,7 @@ impl Heap {
 
     /// Tells entries of the blocks. False, with nothing changed, exactly where the entries don't rise by place, take
     /// away what isn't there, or leave blocks that `from_blocks` would call bad.
+    #[tactic(auto, using(crate::proofs::Indexed::forgotten))]
     pub fn apply(&mut self, entries: &[Entry]) -> bool
         ensures applies { Applies result self.old self.new entries.now }
         ensures live { AreLive self.new }
@@ -121,14 +151,32 @@ impl Heap {
             return false;
         }
         mem::swap(&mut self.blocks, &mut self.spare);
+        forget(&mut self.widest);
         true
     }
 }
 
+/// The place of the first gap with room for a block of this size.
+#[tactic(auto, using(crate::proofs::Indexed::first_of_gap))]
+fn first_place(widest: &mut Vec<u32>, blocks: &[Block], need: u32) -> Option<u32>
+    requires live { AreLive blocks.now }
+    requires widest { AreWidest blocks.now widest.old.items }
+    requires some { 0 < need }
+    requires most { need ≤ HEAP_END - HEAP_START }
+    ensures value { result ≡ first_gap HEAP_START need blocks.now }
+    ensures widest { AreWidest blocks.now widest.new.items }
+{
+    let Some(gap) = find_gap(widest, blocks, need) else {
+        return None;
+    };
+    Some(gap.at)
+}
+
 /// Puts a block of this size at the first gap.
-#[tactic(auto, using(crate::proofs::Placing::live_put))]
-fn put_first(blocks: &mut Vec<Block>, need: u32) -> Option<u32>
+#[tactic(auto, using(crate::proofs::Indexed::live_first))]
+fn put_first(blocks: &mut Vec<Block>, widest: &mut Vec<u32>, need: u32) -> Option<u32>
     requires live { AreLive blocks.old.items }
+    requires widest { AreWidest blocks.old.items widest.old.items }
     requires few { vec_len blocks.old < MOST_BLOCKS }
     requires room { MOST_BLOCKS ≤ vec_capacity blocks.old }
     requires multiple { need % 16 ≡ 0 }
@@ -138,9 +186,10 @@ fn put_first(blocks: &mut Vec<Block>, need: u32) -> Option<u32>
     ensures placed { IfSome result (λ place. blocks.new.items ≡ set_block blocks.old.items place need) }
     ensures none { IfNone result (blocks.new.items ≡ blocks.old.items) }
     ensures live { AreLive blocks.new.items }
+    ensures widest { AreWidest blocks.new.items widest.new.items }
     ensures room { MOST_BLOCKS ≤ vec_capacity blocks.new }
 {
-    let Some(gap) = find_gap(blocks, need) else {
+    let Some(gap) = find_gap(widest, blocks, need) else {
         return None;
     };
     blocks
@@ -152,21 +201,26 @@ fn put_first(blocks: &mut Vec<Block>, need: u32) -> Option<u32>
             },
         )
         .unwrap();
+    raise_each(widest, blocks, (gap.index / RUN + 1) * RUN);
     Some(gap.at)
 }
 
 /// Takes out the block that begins at an address, and says whether there was one.
 #[tactic(auto, using(crate::proofs::Placing::live_gone))]
-fn take_out(blocks: &mut Vec<Block>, addr: u64) -> bool
+fn take_out(blocks: &mut Vec<Block>, widest: &mut Vec<u32>, addr: u64) -> bool
     requires live { AreLive blocks.old.items }
+    requires widest { AreWidest blocks.old.items widest.old.items }
     requires room { MOST_BLOCKS ≤ vec_capacity blocks.old }
     ensures freed { TakesOut result blocks.old.items blocks.new.items addr }
     ensures live { AreLive blocks.new.items }
+    ensures widest { AreWidest blocks.new.items widest.new.items }
     ensures room { MOST_BLOCKS ≤ vec_capacity blocks.new }
 {
     let Some(index) = find(blocks, addr) else {
         return false;
     };
     blocks.remove(index);
+    raise_each(widest, blocks, index);
+    raise_each(widest, blocks, (index / RUN + 1) * RUN - 1);
     true
 }

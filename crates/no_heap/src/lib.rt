@@ -6,9 +6,11 @@ mod block;
 mod comparison;
 mod gap;
 mod heap;
+mod index;
 mod laws;
 mod leaving;
 mod merge;
+mod run;
 mod search;
 #[cfg(test)]
 mod tests;

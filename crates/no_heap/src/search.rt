@@ -3,15 +3,24 @@ ghost use Rattle.no_heap.specs.Blocks.{AreLive, IsBlockAt, size_at, set_block};
 
 use crate::block::Block;
 
-/// The index of the block that begins at an address.
-#[tactic(auto, using(crate::proofs::Placing::no_block_yet, crate::proofs::Placing::no_block))]
+/// The index of the block that begins at an address, found by halving.
+#[tactic(auto, using(crate::proofs::Found::between_none))]
 pub(crate) fn find(blocks: &[Block], addr: u64) -> Option<usize>
     requires { AreLive blocks.now }
     ensures { MatchOption result (size_at blocks.now addr ≡ 0) (λ index. IsBlockAt blocks.now addr index) }
 {
-    for (index, block) in blocks.iter().enumerate() {
-        if block.at as u64 == addr {
-            return Some(index);
+    let mut low = 0;
+    let mut high = blocks.len();
+    while low < high {
+        let middle = low + (high - low) / 2;
+        let at = blocks[middle].at as u64;
+        if at == addr {
+            return Some(middle);
+        }
+        if at < addr {
+            low = middle + 1;
+        } else {
+            high = middle;
         }
     }
     None

@@ -1,7 +1,10 @@
-use Rattle.std.proofs.Common.{◌≡◌, drop}
-use Rattle.no_heap.specs.Blocks.{size_at}
+use Rattle.std.proofs.Common.{◌-◌}
+use Rattle.no_heap.proofs.Found.{Between}
 use Rattle.no_heap.proofs.search.find.Given as goal
 
--- the rest of the blocks says of the address what all of them say
-abbrev pub invariant-loop-index : goal.invariant-loop-index
-invariant-loop-index l = size_at (drop l.index l.blocks) l.addr ≡ size_at l.blocks l.addr
+-- a block at the address stands between the two
+abbrev pub invariant-loop-low : goal.invariant-loop-low
+invariant-loop-low l = Between l.blocks l.addr l.low l.high
+
+abbrev pub decreases-loop-low : goal.decreases-loop-low
+decreases-loop-low l = l.high - l.low
