@@ -1,4 +1,12 @@
-pub mod Accesses
+pub mod Bounds
 pub mod Offsets
-pub mod Moved
-pub mod Stepping
+pub mod Passing
+pub mod Returning
+pub mod Acting
+pub mod Touching
+pub mod Invoking
+pub mod Paying
+pub mod Marking
+pub mod Serving
+pub mod Taking
+pub mod Going

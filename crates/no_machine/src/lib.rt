@@ -4,12 +4,21 @@
 mod access;
 mod act;
 mod calls;
+mod edges;
+mod env;
+mod externals;
+mod frame;
+mod invoke;
 mod machine;
-mod numbers;
-mod rows;
+mod memory;
+mod next;
+mod operands;
+mod paths;
+mod returns;
 mod state;
 mod steps;
 mod values;
 
+pub use env::Env;
 pub use machine::{Machine, StepAnswer};
 pub use steps::Steps;

@@ -1,7 +1,0 @@
-use Rattle.std.proofs.Common.{false}
-use Rattle.no_machine.proofs.Accesses.{missing_absent}
-use Rattle.no_machine.proofs.numbers.fetch.Goals as goal
-
-pub returns-in-Missing : goal.returns-in-Missing
-returns-in-Missing g c =
-    missing_absent (g.M.Memory.regions c.args.mem.now) (g.M.Memory.held c.args.mem.now) false c.args.at c.args.size c.in-Missing.page c.in-Missing.ensures.loaded
