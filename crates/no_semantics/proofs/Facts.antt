@@ -14,7 +14,9 @@ use Rattle.no_layout.specs.declared.extent.Extent.{Extent}
 use Rattle.no_layout.specs.declared.layout.Layout.{Layout}
 use Rattle.no_semantics.specs.declared.frame.Frame.{Frame}
 use Rattle.no_semantics.specs.Sound.{is_sound, op_fits, block_fits, function_fits, table_holds}
+use Rattle.no_semantics.specs.Registers.{given}
 use Rattle.no_semantics.specs.State.{instr_at, instr_in, block_at}
+use Rattle.no_semantics.specs.States.{block_in}
 
 pub both : (a b : Bool) → (a && b) ≡ true → (a ≡ true) × (b ≡ true)
 both true b e = (refl, e)
@@ -61,6 +63,22 @@ pub instr_fits : (m : Module) (l : Layout) (sizes : List Extent) (at : Frame) �
 unfolding is_sound
 instr_fits m l sizes at e =
     in_module m l sizes at.function at.block at.at (slice_get m.functions at.function) refl
+    (both (table_holds l sizes 0 m.types) (list_all (function_fits m l sizes) m.functions) (both (is_formed l) (table_holds l sizes 0 m.types && list_all (function_fits m l sizes) m.functions) e).1).1
+
+block_of : (m : Module) (l : Layout) (sizes : List Extent) (b : ℕ) (o : Option Function) (g : ℕ) → slice_get m.functions g ≡ o → list_all (function_fits m l sizes) m.functions ≡ true
+    → IfSome (given None o (λ (f : Function). slice_get f.blocks b)) (λ (b : Block). block_fits m l sizes b ≡ true)
+block_of m l sizes b None g is e = tt
+block_of m l sizes b (Some f) g is e = block_from m l sizes f b (slice_get f.blocks b) refl (each_at (function_fits m l sizes) m.functions g f e is)
+  where
+    block_from : (m : Module) (l : Layout) (sizes : List Extent) (f : Function) (b : ℕ) (o : Option Block) → slice_get f.blocks b ≡ o → function_fits m l sizes f ≡ true
+        → IfSome o (λ (b : Block). block_fits m l sizes b ≡ true)
+    block_from m l sizes f b None is e = tt
+    block_from m l sizes f b (Some block) is e = each_at (block_fits m l sizes) f.blocks b block e is
+
+pub block_fits_in : (m : Module) (l : Layout) (sizes : List Extent) (g b : ℕ) → is_sound m l sizes ≡ true → IfSome (block_in m g b) (λ (b : Block). block_fits m l sizes b ≡ true)
+unfolding is_sound
+block_fits_in m l sizes g b e =
+    block_of m l sizes b (slice_get m.functions g) g refl
     (both (table_holds l sizes 0 m.types) (list_all (function_fits m l sizes) m.functions) (both (is_formed l) (table_holds l sizes 0 m.types && list_all (function_fits m l sizes) m.functions) e).1).1
 
 -- ---- the width of a pointer

@@ -1,12 +1,12 @@
 -- Parts of types that fit fit, and so do definitions of named types.
-use Rattle.std.proofs.Common.{◌≡◌, ◌≢◌, ℕ, zero, suc, ◌+◌, ◌-◌, ◌*◌, ◌%◌, ◌^◌, ◌<◌, ◌≤◌, inl, inr, Bool, true, false, ◌&&◌, ◌==◌, nat_le, nat_lt, List, [], ◌∷◌, map, length, take, drop, ℤ, pos, slice_get, get_or, Option, Some, None, refl, sym, ap, subst, ◌∙◌, arith, rules, if◌then◌else◌}
-use Rattle.std.proofs.lemmas.Bool.{cases_Bool, and_parts, and_left, and_right, eqb-true, ltb-true}
+use Rattle.std.proofs.Common.{◌≡◌, ◌≢◌, ℕ, zero, suc, ◌+◌, ◌-◌, ◌%◌, ◌^◌, ◌<◌, ◌≤◌, inl, inr, Bool, true, false, ◌==◌, nat_lt, List, [], ◌∷◌, map, length, take, drop, ℤ, pos, slice_get, get_or, Option, Some, None, refl, sym, ap, subst, ◌∙◌, arith, rules}
+use Rattle.std.proofs.lemmas.Bool.{cases_Bool, and_parts, eqb-true, ltb-true}
 use Rattle.std.proofs.lemmas.Option.{same_Some, slice_get_within, get_or_from_slice_get}
 use Rattle.no_ir.specs.declared.types.Ty.{Ty, out-Ty, the_lemmas}
 use Rattle.no_ir.specs.declared.types.Ty.TheOpen.{Ty-F}
-use Rattle.no_ir.specs.declared.types.Ty.TheFolds.{fold_out-Ty, fold-roll-Ty, map-Ty}
+use Rattle.no_ir.specs.declared.types.Ty.TheFolds.{fold_out-Ty, map-Ty}
 use Rattle.no_ir.specs.declared.types.Ty.TheVariants as ty
-use Rattle.no_layout.specs.Sizes.{Measure, HasField, known, measure_of, measure_step, field_count, size_limit, fields_of, whole, type_align, type_size}
+use Rattle.no_layout.specs.Sizes.{Measure, HasField, known, measure_of, measure_step, fields_of, whole, type_align, type_size}
 use Rattle.no_layout.specs.declared.extent.Extent.{Extent}
 use Rattle.no_layout.specs.declared.layout.Layout.{Layout}
 use Rattle.no_layout.proofs.Fields.{field_fits}
@@ -17,7 +17,7 @@ use Rattle.no_semantics.proofs.Facts.{table_is}
 use Rattle.std.proofs.Math.Nat.{add-mod-mod, mod-add-mod}
 use Rattle.std.proofs.Math.Pow.{mod-mod-pow}
 use Rattle.no_semantics.specs.Indices.{defined, index_offset, inner_leads, inner_offset, part_in, part_of, resolved, resolved_step, told_of}
-use Rattle.no_semantics.specs.Sound.{is_sound, entry_holds, same_numbers, table_holds, type_fits}
+use Rattle.no_semantics.specs.Sound.{is_sound, entry_holds, table_holds, type_fits}
 
 none_some : {A : Type 0} (x : A) → None ≡ Some x → ⊥
 none_some x e = absurd cc

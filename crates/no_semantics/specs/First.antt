@@ -24,6 +24,7 @@ program_of a = record {
   sizes = a.sizes;
   addresses = addresses_of a.layout a.sizes a.«module».globals;
   regions = regions_of a.layout a.sizes a.«module».globals;
+  role = a.role;
 }
 
 -- bytes, and zeros behind them up to a length

@@ -132,8 +132,16 @@ abbrev pub indices_fit : Module → Layout → List Extent → Ty → List (ℕ 
 indices_fit m l sizes t [] = true
 indices_fit m l sizes t (index ∷ others) = index_fits m l sizes index && inner_fit m l sizes t others
 
+-- an argument is of an integer type or ptr
+abbrev pub arg_fits : Module → Layout → List Extent → Ty × Operand → Bool
+arg_fits m l sizes arg = is_scalar arg.0 && operand_fits m l sizes arg.1
+
 abbrev pub args_fit : Module → Layout → List Extent → List (Ty × Operand) → Bool
-args_fit m l sizes args = list_all (λ arg. operand_fits m l sizes arg.1) args
+args_fit m l sizes args = list_all (arg_fits m l sizes) args
+
+-- what a phi takes on an edge
+abbrev pub pair_fits : Module → Layout → List Extent → Operand × ℕ → Bool
+pair_fits m l sizes pair = operand_fits m l sizes pair.0
 
 abbrev pub op_fits : Module → Layout → List Extent → Op → Bool
 op_fits m l sizes (op.Binary o w a b) = is_width w && (operand_fits m l sizes a && operand_fits m l sizes b)
@@ -145,9 +153,14 @@ op_fits m l sizes (op.Alloca t count align) = type_fits l sizes t && (count_fits
 op_fits m l sizes (op.Load volatile t a) = is_scalar t && operand_fits m l sizes a
 op_fits m l sizes (op.Store volatile t v a) = is_scalar t && (operand_fits m l sizes v && operand_fits m l sizes a)
 op_fits m l sizes (op.Gep t a indices) = type_fits l sizes t && (operand_fits m l sizes a && indices_fit m l sizes t indices)
-op_fits m l sizes (op.Call t g args) = args_fit m l sizes args
-op_fits m l sizes (op.Ret (Some x)) = is_scalar x.0 && operand_fits m l sizes x.1
-op_fits m l sizes _ = false
+op_fits m l sizes (op.Phi t pairs) = is_scalar t && list_all (pair_fits m l sizes) pairs
+op_fits m l sizes (op.Call t g args) = operand_fits m l sizes g && args_fit m l sizes args
+op_fits m l sizes (op.Br to) = true
+op_fits m l sizes (op.CondBr c to other) = operand_fits m l sizes c
+op_fits m l sizes (op.Switch w a to cases) = is_width w && operand_fits m l sizes a
+op_fits m l sizes (op.Ret None) = true
+op_fits m l sizes (op.Ret (Some x)) = arg_fits m l sizes x
+op_fits m l sizes op.Unreachable = true
 
 -- ---- modules
 

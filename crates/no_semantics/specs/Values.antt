@@ -11,6 +11,7 @@ use Rattle.no_ir.specs.declared.instruction.CastOp.TheVariants as cast
 use Rattle.no_ir.specs.declared.instruction.Operand.{Operand}
 use Rattle.no_ir.specs.declared.instruction.Operand.TheVariants as operand
 use Rattle.no_ir.specs.declared.function.Module.{Module}
+use Rattle.no_ir.specs.declared.function.Role.{Role}
 use Rattle.no_eval.specs.Cast.{cast_of}
 use Rattle.no_eval.specs.Numbers.{modulo}
 use Rattle.no_layout.specs.Memory.{function_address}
@@ -19,13 +20,14 @@ use Rattle.no_layout.specs.declared.layout.Layout.{Layout}
 use Rattle.no_layout.specs.declared.memory.Regions.{Regions}
 use Rattle.no_semantics.specs.Indices.{path_offset}
 
--- what stays the same while a program runs: its module, layout and sizes, the address of each global, and the ends of its constants and globals
+-- what stays the same while a program runs: its module, layout and sizes, the address of each global, the ends of its constants and globals, and its role
 pub record Program : Type 0 where
   pub «module» : Module
   pub layout : Layout
   pub sizes : List Extent
   pub addresses : List ℕ
   pub regions : Regions
+  pub role : Role
 
 -- ---- widths
 

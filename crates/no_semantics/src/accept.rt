@@ -4,7 +4,7 @@ ghost use Rattle.no_semantics.specs.Values.{width_of};
 ghost use Rattle.std.specs.List.{list_all};
 ghost use Rattle.std.specs.Option.{option_copied};
 ghost use Rattle.no_ir.specs.declared.types.Ty.{out-Ty};
-ghost use Rattle.no_semantics.specs.Sound.{align_fits, args_fit, block_fits, count_fits, entry_holds, field_number, field_of, function_fits, goes_between, index_fits, indices_fit, inner_fit, known_part, operand_number, is_scalar, is_sound, is_width, op_fits, operand_fits, place_fits, same_numbers, symbol_fits, table_holds, type_fits};
+ghost use Rattle.no_semantics.specs.Sound.{align_fits, arg_fits, args_fit, block_fits, count_fits, entry_holds, field_number, field_of, function_fits, goes_between, index_fits, indices_fit, inner_fit, known_part, operand_number, is_scalar, is_sound, is_width, op_fits, operand_fits, pair_fits, place_fits, same_numbers, symbol_fits, table_holds, type_fits};
 
 use crate::indices::{path_leads, resolved};
 use no_ir::{Block, Bytes, CastOp, Const, Function, Module, Op, Operand, Place, Symbol, Ty};
@@ -154,9 +154,15 @@ pub fn check_op(program: &Module, op: &Op, layout: &Layout, sizes: &Sizes) -> bo
         Op::Gep(t, a, indices) => checks_type(layout, sizes, t)
             && (checks_operand(program, layout, sizes, a)
                 && checks_indices(program, layout, sizes, t, indices.as_slice())),
-        Op::Call(_, _, args) => checks_args(program, layout, sizes, args.as_slice()),
-        Op::Ret(Some((t, a))) => is_plain(t) && checks_operand(program, layout, sizes, a),
-        _ => false,
+        Op::Phi(t, pairs) => is_plain(t) && checks_pairs(program, layout, sizes, pairs.as_slice()),
+        Op::Call(_, callee, args) => checks_operand(program, layout, sizes, callee)
+            && checks_args(program, layout, sizes, args.as_slice()),
+        Op::Br(_) => true,
+        Op::CondBr(c, _, _) => checks_operand(program, layout, sizes, c),
+        Op::Switch(w, a, _, _) => has_width(*w) && checks_operand(program, layout, sizes, a),
+        Op::Ret(None) => true,
+        Op::Ret(Some(x)) => checks_arg(program, layout, sizes, x),
+        Op::Unreachable => true,
     }
 }
 
@@ -337,12 +343,32 @@ fn operand_number(a: &Operand) -> Option<u64>
     }
 }
 
+fn checks_arg(program: &Module, layout: &Layout, sizes: &Sizes, arg: &(Ty, Operand)) -> bool
+    requires { IsTrue (is_formed layout.now) }
+    ensures { result ≡ arg_fits program.now layout.now sizes.now arg.now }
+{
+    is_plain(&arg.0) && checks_operand(program, layout, sizes, &arg.1)
+}
+
 fn checks_args(program: &Module, layout: &Layout, sizes: &Sizes, args: &[(Ty, Operand)]) -> bool
     requires { IsTrue (is_formed layout.now) }
     ensures { result ≡ args_fit program.now layout.now sizes.now args.now }
 {
-    for (_, a) in args {
-        if !checks_operand(program, layout, sizes, a) {
+    for arg in args {
+        if !checks_arg(program, layout, sizes, arg) {
+            return false;
+        }
+    }
+    true
+}
+
+/// Whether each operand that a phi may take is one.
+fn checks_pairs(program: &Module, layout: &Layout, sizes: &Sizes, pairs: &[(Operand, u32)]) -> bool
+    requires { IsTrue (is_formed layout.now) }
+    ensures { result ≡ list_all (pair_fits program.now layout.now sizes.now) pairs.now }
+{
+    for pair in pairs {
+        if !checks_operand(program, layout, sizes, &pair.0) {
             return false;
         }
     }

@@ -5,6 +5,7 @@ mod accept;
 mod frame;
 mod image;
 mod indices;
+mod laws;
 mod sound;
 mod widths;
 
@@ -12,5 +13,6 @@ pub use accept::{check, check_op, has_place, width};
 pub use frame::Frame;
 pub use image::Image;
 pub use indices::{index_offset, part, place_address, resolved, symbol_address, with_first};
+pub use laws::{a_run_is_one, a_run_splits, steps_compose};
 pub use sound::Sound;
 pub use widths::{bytes_of, narrowed, pointer_width, width_at};

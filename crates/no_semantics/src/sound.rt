@@ -1,11 +1,12 @@
 ghost use Rattle.std.specs.Prelude.{◌≡◌, ◌+◌, ◌<◌, ◌^◌, IsTrue, OnSome, true};
 ghost use Rattle.std.specs.Option.{option_copied, IfSome};
 ghost use Rattle.no_layout.specs.Text.{is_formed};
-ghost use Rattle.no_semantics.specs.Sound.{is_sound, op_fits};
+ghost use Rattle.no_semantics.specs.Sound.{block_fits, is_sound, op_fits};
 ghost use Rattle.no_semantics.specs.State.{instr_at};
+ghost use Rattle.no_semantics.specs.States.{block_in};
 
 use crate::Frame;
-use no_ir::{Instr, Module, Role};
+use no_ir::{Block, Instr, Module, Role};
 use no_layout::{Layout, Sizes};
 use std::marker::Model;
 
@@ -78,6 +79,14 @@ impl Sound {
         self.role
     }
 
+    /// A block of a function. A machine runs each of its instructions.
+    pub fn block(&self, function: u64, block: u64) -> Option<&Block>
+        ensures value { option_copied result ≡ block_in self.now.«module» function block }
+        ensures fits { IfSome (option_copied result) (λ b. block_fits self.now.«module» self.now.layout self.now.sizes b ≡ true) }
+    {
+        block_in(&self.inner, function, block)
+    }
+
     /// The instruction at which a frame stands, which a machine runs.
     pub fn instr(&self, frame: &Frame) -> Option<&Instr>
         ensures value { option_copied result ≡ instr_at self.now.«module» frame.now }
@@ -86,6 +95,17 @@ impl Sound {
     {
         fetch(&self.inner, frame)
     }
+}
+
+/// A block of a function, by their numbers.
+fn block_in(program: &Module, function: u64, block: u64) -> Option<&Block>
+    ensures { option_copied result ≡ block_in program.now function block }
+{
+    program
+        .functions
+        .get(function as usize)?
+        .blocks
+        .get(block as usize)
 }
 
 /// The instruction at which a frame stands.

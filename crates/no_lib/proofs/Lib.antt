@@ -1,0 +1,11 @@
+pub mod Inputs
+pub mod Counted
+pub mod Told
+pub mod Paged
+pub mod Filled
+pub mod Copied
+pub mod Ranges
+pub mod Moved
+pub mod Cleared
+pub mod Chosen
+pub mod Spelled

@@ -1,0 +1,10 @@
+pub mod Reading
+pub mod Values
+pub mod Frames
+pub mod Stepping
+pub mod Entering
+pub mod Externals
+pub mod Effects
+pub mod Calling
+pub mod Acts
+pub mod Beginning

@@ -1,0 +1,37 @@
+-- The functions whose address is taken: those that are named anywhere but as the callee of a direct call, in code that runs or not.
+use Rattle.std.specs.Prelude.{ℕ, Bool, nat_eq, if◌then◌else◌, List, [], ◌++◌, is_some}
+use Rattle.std.specs.List.{flat_map, list_any}
+use Rattle.no_ir.specs.declared.instruction.Operand.{Operand}
+use Rattle.no_ir.specs.declared.instruction.Op.{Op}
+use Rattle.no_ir.specs.declared.instruction.Op.TheVariants as op
+use Rattle.no_ir.specs.declared.instruction.Instr.{Instr}
+use Rattle.no_ir.specs.declared.function.Block.{Block}
+use Rattle.no_ir.specs.declared.function.Function.{Function}
+use Rattle.no_ir.specs.declared.function.Module.{Module}
+use Rattle.no_ir.specs.declared.function.Role.{Role}
+use Rattle.no_ir.specs.declared.function.Role.TheVariants.{Source, Part}
+use Rattle.no_typing.specs.Named.{op_names, operand_names, global_names}
+use Rattle.no_typing.specs.Typing.{direct}
+
+-- a callee that is no bare name of a function
+abbrev pub callee_taken : Operand → List ℕ
+callee_taken callee = if is_some (direct callee) then [] else operand_names callee
+
+abbrev pub op_taken : Op → List ℕ
+op_taken (op.Call t callee args) = callee_taken callee ++ flat_map (λ arg. operand_names arg.1) args
+op_taken o = op_names o
+
+abbrev pub block_taken : Block → List ℕ
+block_taken b = flat_map (λ (i : Instr). op_taken i.op) b.instrs
+
+abbrev pub function_taken : Function → List ℕ
+function_taken f = flat_map block_taken f.blocks
+
+-- the numbers of the functions whose address a module takes
+abbrev pub module_taken : Module → List ℕ
+module_taken m = flat_map global_names m.globals ++ flat_map function_taken m.functions
+
+-- function k may be called through a pointer: its address is taken, or in a server's part it has a device address
+abbrev pub is_callable : Module → Role → ℕ → Function → Bool
+is_callable m Source k f = list_any (nat_eq k) (module_taken m)
+is_callable m Part k f = is_some f.device_address

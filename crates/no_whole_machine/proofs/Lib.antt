@@ -1,0 +1,12 @@
+pub mod Bounds
+pub mod Offsets
+pub mod Passing
+pub mod Returning
+pub mod Acting
+pub mod Touching
+pub mod Invoking
+pub mod Paying
+pub mod Marking
+pub mod Serving
+pub mod Taking
+pub mod Going

@@ -1,0 +1,10 @@
+pub mod Counted
+pub mod Outcomes
+pub mod Held
+pub mod Acted
+pub mod Edges
+pub mod Called
+pub mod Returned
+pub mod Served
+pub mod Told
+pub mod Running
