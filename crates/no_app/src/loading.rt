@@ -4,6 +4,8 @@ ghost use Rattle.no_app.specs.declared.outcome.ModuleFault.{ModuleFault};
 ghost use Rattle.no_image.specs.Fits.{has_image};
 ghost use Rattle.no_ir.specs.declared.function.Role.TheVariants.{Source};
 ghost use Rattle.no_layout.specs.Text.{is_formed};
+ghost use Rattle.no_module.specs.Formed.{IsFormed};
+ghost use Rattle.no_module.specs.Marks.{MarksAllowed};
 ghost use Rattle.no_app.specs.Programs.{Loads, Means, MeansModule, MeansTokens, judged, left_out, run_by_machine, unaccepted, unlexed, unread};
 
 use crate::beyond::first_beyond;
@@ -109,6 +111,8 @@ fn unaccepted(error: VerifyError) -> Refused
 /// The program that a module is: the verifier judges it, and then the machine of today.
 #[tactic(auto, using(crate::proofs::Meanings::accepted_loads, crate::proofs::Meanings::accepted_only, crate::proofs::Meanings::unaccepted_loads, crate::proofs::Meanings::unaccepted_only))]
 fn accepted(alloc: Global, program: Module) -> Result<Sound, Refused>
+    requires formed { IsFormed program }
+    requires marks { MarksAllowed Source program }
     ensures loads { Loads result (MeansModule program) }
     ensures only { (answer : Result Accepted ModuleFault) → MeansModule program answer → Loads result (λ found. found ≡ answer) }
     ensures fits { IfOk result (λ s. has_image s.«module» s.layout s.sizes ≡ true) }

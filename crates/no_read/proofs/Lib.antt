@@ -1,2 +1,3 @@
+pub mod FormedLaws
 pub mod KnowingLaws
 pub mod ReadingLaws

@@ -1,7 +1,9 @@
-ghost use Rattle.std.specs.Prelude.{ℕ, List, ◌≡◌, ◌<◌, ◌^◌, length, Result};
+ghost use Rattle.std.specs.Prelude.{ℕ, List, ◌≡◌, ◌<◌, ◌^◌, length, IfOk, Result};
 ghost use Rattle.no_ir.specs.declared.function.Module.{Module};
 ghost use Rattle.no_ir.specs.declared.function.Role.{Role};
 ghost use Rattle.no_lex.specs.declared.token.Token.{Token};
+ghost use Rattle.no_module.specs.Formed.{IsFormed};
+ghost use Rattle.no_module.specs.Marks.{MarksAllowed};
 ghost use Rattle.no_grammar.specs.Rules.{Gives};
 ghost use Rattle.no_read.specs.declared.fault.ReadFault.{ReadFault};
 ghost use Rattle.no_read.specs.Knowing.{Answers};
@@ -55,6 +57,9 @@ pub fn read_module(
     // What is answered is what the text reads to, a module or a fault, and at most one answer is.
     ensures reads { Answers result (Reads text.now role tokens.now) }
     ensures only { (answer : Result Module ReadFault) → Reads text.now role tokens.now answer → Answers result (λ found. found ≡ answer) }
+    // A module that is read is formed, and in a source nothing has a mark of a server's part.
+    ensures formed { IfOk result (λ m. IsFormed m) }
+    ensures marks { IfOk result (λ m. MarksAllowed role m) }
 {
     modules_are_exact();
     read(alloc, text, tokens, role)

@@ -5,6 +5,8 @@ use Rattle.no_ir.specs.declared.function.Role.{Role}
 use Rattle.no_layout.specs.Sizes.{sizes_of}
 use Rattle.no_layout.specs.Text.{layout_of}
 use Rattle.no_layout.specs.declared.layout.Layout.{Layout}
+use Rattle.no_module.specs.Formed.{IsFormed}
+use Rattle.no_module.specs.Marks.{MarksAllowed}
 use Rattle.no_room.specs.Accepted.{Accepted}
 use Rattle.no_typing.specs.declared.place.FaultPlace.{FaultPlace}
 use Rattle.no_typing.specs.Places.{fault_at}
@@ -48,12 +50,15 @@ abbrev pub IsLaterAnswer : (VerifyKind → Option FaultPlace → Type 0) → Lis
 IsLaterAnswer is kinds None = AreNowhere is kinds
 IsLaterAnswer is kinds (Some fault) = IsFirstFault is kinds fault
 
--- a module is accepted with the layout that its string states and the sizes of its named types
+-- a module is accepted with the layout that its string states and the sizes of its named types: it is formed, a source has no
+-- marks of a part, and no kind of fault has a place in it
 pub record IsAccepted (m : Module) (role : Role) (a : Accepted) : Type 0 where
   pub module_is : a.«module» ≡ m
   pub role_is : a.role ≡ role
   pub layout : layout_of m.layout ≡ Ok a.layout
   pub sizes : a.sizes ≡ sizes_of a.layout m.types
+  pub formed : IsFormed m
+  pub marks : MarksAllowed role m
   pub nowhere : AreNowhere (IsPlace a.layout m role) judged_kinds
 
 -- a module whose string states a layout has its first fault here

@@ -1,5 +1,7 @@
 ghost use Rattle.std.specs.Prelude.{◌≡◌, Ok, true};
 ghost use Rattle.no_layout.specs.Text.{is_formed, layout_of};
+ghost use Rattle.no_module.specs.Formed.{IsFormed};
+ghost use Rattle.no_module.specs.Marks.{MarksAllowed};
 ghost use Rattle.no_verify.specs.Verdict.{IsVerdict};
 
 use crate::judge::{fault_of, later_fault};
@@ -12,7 +14,12 @@ use std::alloc::Global;
 /// Judges a module in its role: the layout first, then the kinds of faults in the order BadType, Twice, UnknownName,
 /// UnknownExternal, TypeMismatch, NoTerminator, PhiEdges, NotAssigned, BadMark, ImageTooLarge, NoMain. Within a kind the
 /// lowest function, block and place is named.
+///
+/// The module is formed, and a source has no instruction that the partition made and no address of the device, as the reader
+/// gives it.
 pub fn verify(alloc: Global, program: Module, role: Role) -> Result<Sound, VerifyError>
+    requires formed { IsFormed program }
+    requires marks { MarksAllowed role program }
     ensures { IsVerdict program role result }
 {
     if program.layout.len() > 0xFFFF_FFFF {
@@ -27,7 +34,9 @@ pub fn verify(alloc: Global, program: Module, role: Role) -> Result<Sound, Verif
 /// Judges a module under the layout that its string states.
 fn under(alloc: Global, program: Module, layout: Layout, role: Role) -> Result<Sound, VerifyError>
     requires layout { layout_of program.layout ≡ Ok layout }
-    requires formed { is_formed layout ≡ true }
+    requires stated { is_formed layout ≡ true }
+    requires formed { IsFormed program }
+    requires marks { MarksAllowed role program }
     ensures { IsVerdict program role result }
 {
     let sizes = match large_fault(alloc, &layout, &program) {

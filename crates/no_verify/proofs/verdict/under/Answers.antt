@@ -14,6 +14,8 @@ of-requires-clause-accepted c =
       role_is = refl;
       layout = c.requires.layout;
       sizes = large.0;
+      formed = c.requires.formed;
+      marks = c.requires.marks;
       nowhere = later_nowhere (IsPlace c.args.layout c.args.program c.args.role) later_kinds kind.BadType (sym large.1) (subst (IsLaterAnswer (IsPlace c.args.layout c.args.program c.args.role) later_kinds) c.in-Ok-None.field-0-is c.in-Ok-None.ensures);
     }
 
