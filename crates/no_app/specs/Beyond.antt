@@ -109,9 +109,16 @@ called_word (Some f) = if is_empty f.blocks then f.name else codes "call"
 
 -- ---- a whole module
 
-abbrev pub does_call : Module → Op → Bool
-does_call m (op.Call t g args) = does_called (named_callee m g) t (map (λ a. a.0) args)
-does_call m _ = true
+-- whether the machine of today does an instruction of this form: no branch, and of calls those of an external that it has
+abbrev pub does_op : Module → Op → Bool
+does_op m (op.Call t g args) = does_called (named_callee m g) t (map (λ a. a.0) args)
+does_op m (op.Phi t pairs) = false
+does_op m (op.Br label) = false
+does_op m (op.CondBr c label other) = false
+does_op m (op.Switch w a label cases) = false
+does_op m (op.Ret None) = false
+does_op m op.Unreachable = false
+does_op m _ = true
 
 abbrev pub beyond_word : Module → Op → List ℕ
 beyond_word m (op.Call t g args) = called_word (named_callee m g)
@@ -119,7 +126,7 @@ beyond_word m o = op_word o
 
 -- the word of an instruction that the machine doesn't do
 abbrev pub beyond : Module → Layout → List Extent → Instr → Option (List ℕ)
-beyond m l sizes i = if op_fits m l sizes i.op && does_call m i.op then None else Some (beyond_word m i.op)
+beyond m l sizes i = if op_fits m l sizes i.op && does_op m i.op then None else Some (beyond_word m i.op)
 
 -- the first that is there
 abbrev pub or_else : {A : Type 0} → Option A → Option A → Option A

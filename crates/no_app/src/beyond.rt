@@ -3,7 +3,7 @@ ghost use Rattle.std.specs.Option.{option_copied};
 ghost use Rattle.no_layout.specs.Text.{is_formed};
 ghost use Rattle.no_semantics.specs.State.{symbol_function};
 ghost use Rattle.no_semantics.specs.Step.{is_putchar};
-ghost use Rattle.no_app.specs.Beyond.{binary_word, cast_word, op_word, is_i32, is_one_i32, named_function, named_callee, does_external, does_called, called_word, does_call, beyond_word, beyond, beyond_in_block, beyond_in_function, first_beyond};
+ghost use Rattle.no_app.specs.Beyond.{binary_word, cast_word, op_word, is_i32, is_one_i32, named_function, named_callee, does_external, does_oped, called_word, does_op, beyond_word, beyond, beyond_in_block, beyond_in_function, first_beyond};
 ghost use Rattle.no_app.specs.Words.{Finds};
 
 use no_ir::{BinOp, Block, CastOp, Const, Function, Instr, Module, Op, Operand, Place, Symbol, Ty};
@@ -144,15 +144,18 @@ fn does_external(function: &Function, ty: &Ty, args: &[(Ty, Operand)]) -> bool
             && (takes_i32(function.params.as_slice()) && (is_i32(ty) && gives_i32(args))))
 }
 
-/// Whether the machine does a call, where the instruction is one.
-fn does_call(program: &Module, op: &Op) -> bool
-    ensures { result ≡ does_call program.now op.now }
+/// Whether the machine of today does an instruction of this form: no branch, and of calls those of an external that it has.
+fn does_op(program: &Module, op: &Op) -> bool
+    ensures { result ≡ does_op program.now op.now }
 {
     match op {
         Op::Call(ty, callee, args) => match named_callee(program, callee) {
             Some(function) => does_external(function, ty, args.as_slice()),
             None => false,
         },
+        Op::Phi(_, _) | Op::Br(_) | Op::CondBr(_, _, _) | Op::Switch(_, _, _, _) => false,
+        Op::Ret(value) => value.is_some(),
+        Op::Unreachable => false,
         _ => true,
     }
 }
@@ -186,7 +189,7 @@ fn beyond<'a>(
     requires { IsTrue (is_formed layout.now) }
     ensures { Finds (λ w. w.now) result (beyond program.now layout.now sizes.now instr.now) }
 {
-    if check_op(program, &instr.op, layout, sizes) && does_call(program, &instr.op) {
+    if check_op(program, &instr.op, layout, sizes) && does_op(program, &instr.op) {
         None
     } else {
         Some(beyond_word(program, &instr.op))

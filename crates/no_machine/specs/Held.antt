@@ -16,6 +16,7 @@ program_in regions a m = record {
   sizes = a.sizes;
   addresses = m.addresses;
   regions = regions m.mem;
+  role = a.role;
 }
 
 -- what no instruction changes
