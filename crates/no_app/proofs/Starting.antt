@@ -21,7 +21,7 @@ run_is a input n = refl
 
 -- a program by its addresses and regions
 abbrev pub placed : Accepted → List ℕ → Regions → Program
-placed a addresses regions = record { «module» = a.«module»; layout = a.layout; sizes = a.sizes; addresses = addresses; regions = regions }
+placed a addresses regions = record { «module» = a.«module»; layout = a.layout; sizes = a.sizes; addresses = addresses; regions = regions; role = a.role }
 
 pub at_start : (a : Accepted) (addresses : List ℕ) (mem : PageTable) (budget : ℕ) (m : Local) (input : List ℕ)
     → machine.IsBooted byte_of a addresses mem budget m

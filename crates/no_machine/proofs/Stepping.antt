@@ -48,6 +48,7 @@ module _ {M : Type 0} (regions : M → Regions) (byte : M → ℕ → ℕ) (held
     sizes = a.sizes;
     addresses = kept.same_addresses i;
     regions = kept.same_regions i;
+    role = a.role;
   }
 
   pub step_goes : (f g : Core M) (count budget : ℕ) (end : Option End) (bytes before after : List ℕ) → end ≡ None
