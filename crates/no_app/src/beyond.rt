@@ -3,7 +3,7 @@ ghost use Rattle.std.specs.Option.{option_copied};
 ghost use Rattle.no_layout.specs.Text.{is_formed};
 ghost use Rattle.no_semantics.specs.State.{symbol_function};
 ghost use Rattle.no_semantics.specs.Step.{is_putchar};
-ghost use Rattle.no_app.specs.Beyond.{binary_word, cast_word, op_word, is_i32, is_one_i32, named_function, named_callee, does_external, does_oped, called_word, does_op, beyond_word, beyond, beyond_in_block, beyond_in_function, first_beyond};
+ghost use Rattle.no_app.specs.Beyond.{binary_word, cast_word, op_word, is_i32, is_one_i32, named_function, named_callee, does_external, does_called, called_word, does_op, beyond_word, beyond, beyond_in_block, beyond_in_function, first_beyond};
 ghost use Rattle.no_app.specs.Words.{Finds};
 
 use no_ir::{BinOp, Block, CastOp, Const, Function, Instr, Module, Op, Operand, Place, Symbol, Ty};
