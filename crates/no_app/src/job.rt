@@ -9,10 +9,10 @@ ghost use Rattle.no_semantics.specs.Run.{run};
 ghost use Rattle.no_app.specs.Jobs.{Counts, IsAtStart, IsRunOf, Works, input_of, report_alone};
 
 use crate::report::Report;
-use no_pages::PageTable;
 use no_image::{image, load};
 use no_ir::{End, NoMemory};
 use no_machine::{Machine, StepAnswer, Steps};
+use no_pages::PageTable;
 use no_ports::{GaveAll, Sink, Source, give_all};
 use no_semantics::Sound;
 use std::alloc::Global;

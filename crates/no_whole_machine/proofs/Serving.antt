@@ -73,7 +73,7 @@ module _ {M : Type 0} (byte : M → ℕ → ℕ) (held : M → ℕ → Bool) (re
   putchar_does into ns n (acted.Went cost) g after is puts =
       let row = ap (λ (l : List ℕ). row_external p into external.PutChar l s) is ∙ putchar_row p into n s in
       let state : state_in g whole (after.input ++ more) ≡ record s { frame = states.assigned into (n % 256) s.frame } =
-          ap (λ (c : Core M). state_in c whole (after.input ++ more)) puts.1 ∙ ap (λ (i : List ℕ). state_in (record f { frame = assigned_frame into (n % 256) f.frame }) whole (i ++ more)) puts.3 in
+      ap (λ (c : Core M). state_in c whole (after.input ++ more)) puts.1 ∙ ap (λ (i : List ℕ). state_in (record f { frame = assigned_frame into (n % 256) f.frame }) whole (i ++ more)) puts.3 in
       subst (λ (k : ℕ). IsDone byte held (affordable left (row_external p into external.PutChar ns s)) k f g env after more) (sym puts.0)
       (done (row_external p into external.PutChar ns s) (n % 256 ∷ []) _ g after row state puts.2 puts.4 (subst (λ (c : Core M). Agrees (held c.mem) (byte c.mem) whole) (sym puts.1) agrees))
   putchar_does into ns n acted.NoMemory g after is puts =

@@ -122,7 +122,7 @@ module _ {M : Type 0} (byte : M → ℕ → ℕ) (held : M → ℕ → Bool) (re
       let after : ℕ → ℕ = write_number acc.layout.big whole at (bytes_of_type p t) n in
       let moved : state_in new after input ≡ record (state_in old after input) { frame = states.moved (frame_of old.frame) } = ap (λ (c : Core M). state_in c after input) is in
       let bytes : byte mem ≡ write_number acc.layout.big (byte old.mem) at (bytes_of_type p t) n =
-          wrote ∙ ap (λ (k : ℕ). write_number l.big (byte old.mem) at k n) size ∙ ap (λ (x : Layout). write_number x.big (byte old.mem) at (bytes_of_type p t) n) big in
+      wrote ∙ ap (λ (k : ℕ). write_number l.big (byte old.mem) at k n) size ∙ ap (λ (x : Layout). write_number x.big (byte old.mem) at (bytes_of_type p t) n) big in
       record {
         call = None;
         whole = after;
@@ -141,9 +141,10 @@ module _ {M : Type 0} (byte : M → ℕ → ℕ) (held : M → ℕ → Bool) (re
   store_missing v a n page size ptr val missing whole input =
       let there : access (regions old.mem) (held old.mem) true at (bytes_of_type p t) ≡ Missing page = subst (λ k. access (regions old.mem) (held old.mem) true at k ≡ Missing page) size missing in
       let none : refusal p.regions true at (bytes_of_type p t) ≡ None = (missing_is (refusal p.regions true at (bytes_of_type p t)) _ page there).0 in
-      let row : row_store p t v a (state_in old whole input) ≡ stored p at (bytes_of_type p t) n (state_in old whole input) None = store_row p t v a (state_in old whole input) at n None ptr val none in
-      (ap (λ (r : Row). r.cost) row,
-       subst (λ (r : Row). IsLowestAbsent (held old.mem) (needed r) page) (sym row) (lowest_of (regions old.mem) (held old.mem) true at (bytes_of_type p t) (subst (λ k. 0 < k) size (some_bytes w)) page there))
+      let row : row_store p t v a (state_in old whole input) ≡ stored p at (bytes_of_type p t) n (state_in old whole input) None = store_row p t v a (state_in old whole input) at n None ptr val none in (
+        ap (λ (r : Row). r.cost) row,
+        subst (λ (r : Row). IsLowestAbsent (held old.mem) (needed r) page) (sym row) (lowest_of (regions old.mem) (held old.mem) true at (bytes_of_type p t) (subst (λ k. 0 < k) size (some_bytes w)) page there),
+      )
 
   pub store_refused : (v a : Operand) (n : ℕ) (trap : Trap) → width_of w ≡ bytes_of_type p t → pointer_of p old.frame.registers a ≡ Some at → operand_of p old.frame.registers t v ≡ Some n
       → access (regions old.mem) (held old.mem) true at (width_of w) ≡ Refused trap
@@ -163,11 +164,11 @@ module _ {M : Type 0} (byte : M → ℕ → ℕ) (held : M → ℕ → Bool) (re
       let none : refusal p.regions false at (bytes_of_type p t) ≡ None = (done_is (refusal p.regions false at (bytes_of_type p t)) _ there).0 in
       let row = load_row p into t a (state_in old whole input) at None ptr none in
       let number : x ≡ read_number acc.layout.big whole at (bytes_of_type p t) =
-          read ∙ ap (λ (k : ℕ). read_number l.big (byte old.mem) at k) size ∙ ap (λ (y : Layout). read_number y.big (byte old.mem) at (bytes_of_type p t)) big
-          ∙ ap (number_of acc.layout.big) (done_agrees (regions old.mem) (held old.mem) false (byte old.mem) whole at (bytes_of_type p t) some there agrees) in
+      read ∙ ap (λ (k : ℕ). read_number l.big (byte old.mem) at k) size ∙ ap (λ (y : Layout). read_number y.big (byte old.mem) at (bytes_of_type p t)) big
+      ∙ ap (number_of acc.layout.big) (done_agrees (regions old.mem) (held old.mem) false (byte old.mem) whole at (bytes_of_type p t) some there agrees) in
       let value : n ≡ read_number acc.layout.big whole at (bytes_of_type p t) % 2 ^ bits_of acc.layout t = low ∙ ap (λ (k : ℕ). k % 2 ^ bits_of acc.layout t) number in
       let moved : state_in new whole input ≡ record (state_in old whole input) { frame = states.assigned into (read_number acc.layout.big whole at (bytes_of_type p t) % 2 ^ bits_of acc.layout t) (frame_of old.frame) } =
-          ap (λ (c : Core M). state_in c whole input) is ∙ ap (λ (k : ℕ). record (state_in old whole input) { frame = states.assigned into k (frame_of old.frame) }) value in
+      ap (λ (c : Core M). state_in c whole input) is ∙ ap (λ (k : ℕ). record (state_in old whole input) { frame = states.assigned into k (frame_of old.frame) }) value in
       record {
         call = None;
         whole = whole;
@@ -185,10 +186,11 @@ module _ {M : Type 0} (byte : M → ℕ → ℕ) (held : M → ℕ → Bool) (re
   load_missing into a page size ptr missing whole input =
       let there : access (regions old.mem) (held old.mem) false at (bytes_of_type p t) ≡ Missing page = subst (λ k. access (regions old.mem) (held old.mem) false at k ≡ Missing page) size missing in
       let none : refusal p.regions false at (bytes_of_type p t) ≡ None = (missing_is (refusal p.regions false at (bytes_of_type p t)) _ page there).0 in
-      let row = load_row p into t a (state_in old whole input) at None ptr none in
-      (ap (λ (r : Row). r.cost) row,
-       subst (λ (r : Row). IsLowestAbsent (held old.mem) (needed r) page) (sym row)
-       (subst (λ ss. IsLowestAbsent (held old.mem) ss page) (sym (append-nil (span_of at (bytes_of_type p t)))) (lowest_of (regions old.mem) (held old.mem) false at (bytes_of_type p t) (subst (λ k. 0 < k) size (some_bytes w)) page there)))
+      let row = load_row p into t a (state_in old whole input) at None ptr none in (
+        ap (λ (r : Row). r.cost) row,
+        subst (λ (r : Row). IsLowestAbsent (held old.mem) (needed r) page) (sym row)
+            (subst (λ ss. IsLowestAbsent (held old.mem) ss page) (sym (append-nil (span_of at (bytes_of_type p t)))) (lowest_of (regions old.mem) (held old.mem) false at (bytes_of_type p t) (subst (λ k. 0 < k) size (some_bytes w)) page there)),
+      )
 
   pub load_refused : (into : Option ℕ) (a : Operand) (trap : Trap) → width_of w ≡ bytes_of_type p t → pointer_of p old.frame.registers a ≡ Some at
       → access (regions old.mem) (held old.mem) false at (width_of w) ≡ Refused trap

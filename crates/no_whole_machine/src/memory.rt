@@ -25,7 +25,10 @@ impl<M: Memory> Core<M> {
         let Some(at) = self.pointer(sound, a) else {
             return Acted::Stuck;
         };
-        match self.mem.load(sound.layout().big, Width::of(bytes_of(w)), at) {
+        match self
+            .mem
+            .load(sound.layout().big, Width::of(bytes_of(w)), at)
+        {
             Loaded::Value(n) => {
                 self.assign(into, narrowed(w, n));
                 Acted::Went(1)
@@ -52,7 +55,10 @@ impl<M: Memory> Core<M> {
         let Some(n) = self.typed(sound, t, v) else {
             return Acted::Stuck;
         };
-        match self.mem.store(sound.layout().big, Width::of(bytes_of(w)), at, n) {
+        match self
+            .mem
+            .store(sound.layout().big, Width::of(bytes_of(w)), at, n)
+        {
             Stored::Done => {
                 self.advance();
                 Acted::Went(1)

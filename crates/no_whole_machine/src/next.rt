@@ -26,14 +26,7 @@ fn is_spent(left: u64) -> bool
 
 impl<M: Memory> Core<M> {
     /// Does an instruction, where its cost is not above what is left of the budget.
-    fn act(
-        &mut self,
-        sound: &Sound,
-        into: Option<u32>,
-        op: &Op,
-        left: u64,
-        env: &mut Env,
-    ) -> Acted
+    fn act(&mut self, sound: &Sound, into: Option<u32>, op: &Op, left: u64, env: &mut Env) -> Acted
         requires room { self.old.frame.at + 1 < 2 ^ 64 }
         requires some { 0 < left }
         requires fits { op_fits sound.now.«module» sound.now.layout sound.now.sizes op.now ≡ true }

@@ -13,9 +13,7 @@ use crate::state::{Core, Outcome};
 use no_eval::cast;
 use no_ir::{CastOp, Operand, Ty};
 use no_layout::Memory;
-use no_semantics::{
-    Sound, index_offset, narrowed, part, pointer_width, resolved, with_first,
-};
+use no_semantics::{Sound, index_offset, narrowed, part, pointer_width, resolved, with_first};
 
 /// A number of w bits at another width, with its sign where that is more.
 fn resized(w: u8, to: u8, n: u64) -> u64

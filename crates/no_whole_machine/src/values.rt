@@ -14,14 +14,7 @@ use no_semantics::{Sound, width_at};
 impl<M: Memory> Core<M> {
     /// A binary operator.
     #[tactic(auto, unfolding(no_semantics::specs::Results::binary_value))]
-    pub(crate) fn binary(
-        &self,
-        sound: &Sound,
-        o: BinOp,
-        w: u8,
-        a: &Operand,
-        b: &Operand,
-    ) -> Outcome
+    pub(crate) fn binary(&self, sound: &Sound, o: BinOp, w: u8, a: &Operand, b: &Operand) -> Outcome
         requires some { 0 < w }
         requires most { w ≤ 64 }
         requires left { operand_fits sound.now.«module» sound.now.layout sound.now.sizes a.now ≡ true }
@@ -66,14 +59,7 @@ impl<M: Memory> Core<M> {
 
     /// A conversion.
     #[tactic(auto, unfolding(no_semantics::specs::Results::cast_value))]
-    pub(crate) fn convert(
-        &self,
-        sound: &Sound,
-        o: CastOp,
-        t: &Ty,
-        a: &Operand,
-        u: &Ty,
-    ) -> Outcome
+    pub(crate) fn convert(&self, sound: &Sound, o: CastOp, t: &Ty, a: &Operand, u: &Ty) -> Outcome
         requires from { is_scalar t.now ≡ true }
         requires to { is_scalar u.now ≡ true }
         requires between { goes_between o (width_of sound.now.layout t.now) (width_of sound.now.layout u.now) ≡ true }

@@ -17,7 +17,7 @@ adopt_slot-requires c =
     let lt : p < length c.loop-page.pages.items = omega (arith, same.all) in
     let is = slot c.loop-page.pages.items c.args.held.pages.items p c.index_mut.result.now c.take-kept.result lt (same.rest p (omega arith)) c.index_mut.ensures.value c.take-kept.ensures.value in
     subst (λ (h : ℕ → Bool). IsHeld h p (bytes_of c.take-kept.result)) (sym same.held)
-        (subst (λ (o : Option (Box (List ℕ) Global)). IsHeld (held_of c.args.self.now) p (bytes_of o)) is (c.requires p))
+    (subst (λ (o : Option (Box (List ℕ) Global)). IsHeld (held_of c.args.self.now) p (bytes_of o)) is (c.requires p))
 
 pub loop-page-preserved : goal.loop-page-preserved
 loop-page-preserved c =

@@ -84,4 +84,3 @@ pub returns-in-Ret-clause-acts : goal.returns-in-Ret-clause-acts
 returns-in-Ret-clause-acts g c = λ whole input agrees.
     subst (λ (o : Op). Acts g.M.Memory.byte g.M.Memory.held (row_of_op (program_in g.M.Memory.regions c.args.sound.now c.args.self.now) c.args.into o (state_in c.args.self.now whole input)) c.ret.result c.args.self.now c.ret.new.self input) (sym c.in-Ret.is)
     (moves_acts g.M.Memory.byte g.M.Memory.held g.M.Memory.regions (λ b i. row_ret (program_in g.M.Memory.regions c.args.sound.now c.args.self.now) c.in-Ret.value (state_in c.args.self.now b i)) c.ret.result c.args.self.now c.ret.new.self c.ret.ensures.moves c.ret.ensures.kept c.ret.ensures.bytes whole input agrees)
-

@@ -14,6 +14,7 @@ returns-in-Missing-clause-acts g c = λ whole input agrees.
     (there.0, there.1, record { state = λ b i. refl; bytes = refl })
 
 pub returns-in-Refused-clause-acts : goal.returns-in-Refused-clause-acts
-returns-in-Refused-clause-acts g c = λ whole input agrees.
-    (load_refused g.M.Memory.byte g.M.Memory.held g.M.Memory.regions c.args.sound.now c.args.self.now c.args.self.now c.args.t.now c.of.result c.in-Some.at c.args.into c.args.a.now c.in-Refused.trap (c.of.ensures ∙ c.bytes_of.ensures.bytes ∙ ap bytes_of_width c.width_at-w.ensures.value) (sym c.pointer.ensures.value ∙ c.in-Some.is) c.in-Refused.ensures whole input,
-     record { state = λ b i. refl; bytes = refl })
+returns-in-Refused-clause-acts g c = λ whole input agrees. (
+  load_refused g.M.Memory.byte g.M.Memory.held g.M.Memory.regions c.args.sound.now c.args.self.now c.args.self.now c.args.t.now c.of.result c.in-Some.at c.args.into c.args.a.now c.in-Refused.trap (c.of.ensures ∙ c.bytes_of.ensures.bytes ∙ ap bytes_of_width c.width_at-w.ensures.value) (sym c.pointer.ensures.value ∙ c.in-Some.is) c.in-Refused.ensures whole input,
+  record { state = λ b i. refl; bytes = refl },
+)
