@@ -1,0 +1,6 @@
+//! Cases of the public calls beside those of the tables under `examples/`, worked out by hand: what no command of the
+//! program shows yet.
+#![tactic(auto)]
+
+#[cfg(test)]
+mod frames;
