@@ -1,5 +1,5 @@
 -- From what a machine holds to what the rows say.
-use Rattle.std.proofs.Common.{◌≡◌, ℕ, ◌+◌, ◌≤◌, ◌<◌, ◌++◌, nat_lt, ◌==◌, if◌then◌else◌, Bool, true, false, List, [], Option, Some, None, refl, sym, ap, subst, ◌∙◌, append-nil, arith}
+use Rattle.std.proofs.Common.{◌≡◌, ℕ, ◌≤◌, ◌++◌, nat_lt, ◌==◌, if◌then◌else◌, Bool, false, List, [], Option, Some, None, refl, sym, ap, subst, ◌∙◌, append-nil}
 use Rattle.std.proofs.lemmas.Bool.{le-ltb}
 use Rattle.no_ir.specs.declared.ending.End.TheVariants.{Trapped}
 use Rattle.no_ir.specs.declared.ending.Trap.{Trap}
@@ -8,16 +8,15 @@ use Rattle.no_layout.specs.Memory.{Agrees}
 use Rattle.no_layout.specs.declared.memory.Regions.{Regions}
 use Rattle.no_semantics.specs.Control.{arrived, branched, case_label, go, row_br, row_cond_br, row_switch}
 use Rattle.no_semantics.specs.Registers.{operand}
-use Rattle.no_semantics.specs.Rows.{Row, Next, Goes, Leaves, Ends, Stuck, plain, needed, affordable, unfinished}
+use Rattle.no_semantics.specs.Rows.{Row, Next, Goes, Leaves, Ends, Stuck, plain, needed, affordable}
 use Rattle.no_semantics.specs.Spans.{AreHeld, IsLowestAbsent}
 use Rattle.no_semantics.specs.States as states
 use Rattle.no_semantics.specs.Values.{Program}
-use Rattle.no_whole_machine.specs.Acted.{Moves, Acts, HasActed, IsSame, IsSameEnv, IsDone, IsOver, IsWanted, Does}
+use Rattle.no_whole_machine.specs.Acted.{Moves, Acts, IsSame, IsSameEnv, IsOver, Does}
 use Rattle.no_whole_machine.specs.Called.{Enters}
 use Rattle.no_whole_machine.specs.Edges.{Lands}
 use Rattle.no_whole_machine.specs.Held.{IsKept, frame_of, state_in}
-use Rattle.no_whole_machine.specs.declared.env.Env.{Env}
-use Rattle.no_whole_machine.specs.declared.frame.Frame.{Frame}
+use Rattle.no_lib.specs.declared.env.Env.{Env}
 use Rattle.no_whole_machine.specs.declared.state.Acted.{Acted}
 use Rattle.no_whole_machine.specs.declared.state.Acted.TheVariants as acted
 use Rattle.no_whole_machine.specs.declared.state.Core.{Core}

@@ -1,5 +1,5 @@
 -- The next instruction, within what is left of a budget.
-use Rattle.std.proofs.Common.{◌≡◌, ℕ, ◌≢◌, ◌≤◌, ◌==◌, arith, Bool, true, false, List, [], Option, Some, None, refl, sym, ap, subst, ◌∙◌}
+use Rattle.std.proofs.Common.{◌≡◌, ℕ, ◌≢◌, ◌≤◌, ◌==◌, arith, Bool, false, [], Some, None, refl, sym, ap, subst, ◌∙◌}
 use Rattle.std.proofs.lemmas.Bool.{eqb-false}
 use Rattle.no_ir.specs.declared.ending.End.TheVariants.{Unfinished}
 use Rattle.no_ir.specs.declared.instruction.Instr.{Instr}
@@ -9,9 +9,10 @@ use Rattle.no_semantics.specs.Spans.{AreHeld}
 use Rattle.no_semantics.specs.States.{State, instr_at}
 use Rattle.no_semantics.specs.Values.{Program}
 use Rattle.no_whole_machine.proofs.Acting.{next_stuck, same_env, same_here}
-use Rattle.no_whole_machine.proofs.Paying.{limited_none, limited_some, of_op, one, row_costs, row_none, row_some}
+use Rattle.no_whole_machine.proofs.Effects.{one}
+use Rattle.no_whole_machine.proofs.Paying.{limited_none, limited_some, of_op, row_costs, row_none, row_some}
 use Rattle.no_whole_machine.specs.Acted.{IsOver}
-use Rattle.no_whole_machine.specs.declared.env.Env.{Env}
+use Rattle.no_lib.specs.declared.env.Env.{Env}
 use Rattle.no_whole_machine.specs.declared.state.Core.{Core}
 use Rattle.no_layout.specs.declared.memory.Regions.{Regions}
 

@@ -1,5 +1,5 @@
 -- Calls beside their rows.
-use Rattle.std.proofs.Common.{◌≡◌, ◌≢◌, ℕ, ◌≤◌, ◌<◌, if◌then◌else◌, Bool, true, false, List, slice_get, Option, Some, None, refl, sym, ap, ◌∙◌}
+use Rattle.std.proofs.Common.{◌≡◌, ℕ, if◌then◌else◌, Bool, true, false, List, Option, Some, None, refl, ap, ◌∙◌}
 use Rattle.no_ir.specs.declared.ending.Trap.{Trap}
 use Rattle.no_ir.specs.declared.function.Function.{Function}
 use Rattle.no_ir.specs.declared.instruction.Op.{Op}
@@ -11,8 +11,8 @@ use Rattle.no_module.specs.Externals.{external_of}
 use Rattle.no_module.specs.Functions.{is_declared}
 use Rattle.no_module.specs.declared.external.External.{External}
 use Rattle.no_semantics.specs.Registers.{given}
-use Rattle.no_semantics.specs.Results.{Valued, Number, Traps, NoValue}
-use Rattle.no_semantics.specs.Rows.{Row, stuck, trapping}
+use Rattle.no_semantics.specs.Results.{Number, Traps, NoValue}
+use Rattle.no_semantics.specs.Rows.{stuck, trapping}
 use Rattle.no_semantics.specs.States.{State, function_at}
 use Rattle.no_semantics.specs.Values.{Program}
 use Rattle.no_whole_machine.specs.Acted.{IsNoCall}

@@ -5,6 +5,7 @@ pub mod Returning
 pub mod Acting
 pub mod Touching
 pub mod Invoking
+pub mod Effects
 pub mod Paying
 pub mod Marking
 pub mod Serving

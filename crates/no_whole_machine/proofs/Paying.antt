@@ -1,7 +1,6 @@
 -- Each instruction costs something, and what is done within a budget.
-use Rattle.std.proofs.Common.{◌≡◌, ◌≢◌, ℕ, zero, suc, ◌+◌, ◌-◌, ◌*◌, ◌/◌, ◌≤◌, ◌<◌, ◌==◌, nat_lt, nat_le, inl, inr, Bool, true, false, ◌&&◌, if◌then◌else◌, List, [], ◌∷◌, Option, Some, None, refl, sym, ap, subst, ◌∙◌, arith}
-use Rattle.std.proofs.lemmas.Bool.{cases_Bool, eqb-true, le-ltb}
-use Rattle.no_ir.specs.declared.ending.End.TheVariants.{Unfinished}
+use Rattle.std.proofs.Common.{◌≡◌, ℕ, ◌+◌, ◌-◌, ◌≤◌, ◌==◌, nat_lt, inl, inr, Bool, true, false, if◌then◌else◌, List, [], ◌∷◌, Option, Some, None, refl, sym, subst, arith}
+use Rattle.std.proofs.lemmas.Bool.{cases_Bool, eqb-true}
 use Rattle.no_ir.specs.declared.ending.Trap.{Trap}
 use Rattle.no_ir.specs.declared.function.Function.{Function}
 use Rattle.no_ir.specs.declared.instruction.Instr.{Instr}
@@ -10,32 +9,26 @@ use Rattle.no_ir.specs.declared.instruction.Op.TheVariants as op
 use Rattle.no_ir.specs.declared.instruction.Operand.{Operand}
 use Rattle.no_ir.specs.declared.types.Ty.{Ty}
 use Rattle.no_layout.specs.Memory.{refusal, stack_start}
-use Rattle.no_layout.specs.declared.memory.Regions.{Regions}
-use Rattle.no_heap.specs.Blocks.{size_at}
-use Rattle.no_heap.specs.Fit.{fit}
 use Rattle.no_module.specs.Externals.{external_of}
 use Rattle.no_module.specs.Functions.{is_declared}
 use Rattle.no_module.specs.declared.external.External.{External}
 use Rattle.no_module.specs.declared.external.External.TheVariants as external
 use Rattle.no_semantics.specs.Access.{allocated, fetched, stored, row_alloca, row_load, row_store}
-use Rattle.no_semantics.specs.Acting.{row, row_of_op, step}
-use Rattle.no_semantics.specs.Calls.{arguments_of, call_room, called, calling, callee_value, entered, entry_frame, invoked, outcome_row, returned, returned_in, row_call, row_external, row_map, row_ret, row_return, row_room, row_effect}
+use Rattle.no_semantics.specs.Acting.{row, row_of_op}
+use Rattle.no_semantics.specs.Calls.{arguments_of, call_room, called, calling, callee_value, entered, entry_frame, invoked, returned, returned_in, row_call, row_external, row_map, row_ret, row_room, row_effect}
 use Rattle.no_semantics.specs.Control.{arrived, branched, case_label, go, row_br, row_cond_br, row_switch}
 use Rattle.no_semantics.specs.Externals as ext
 use Rattle.no_semantics.specs.Registers.{given, operand, operand_of, pointer_of}
 use Rattle.no_semantics.specs.Results.{Valued, Number, Traps, NoValue, bytes_of_type, load_value}
-use Rattle.no_semantics.specs.Rows.{Row, Ends, Stuck, affordable, charged, computed, limited, stuck, unfinished}
-use Rattle.no_semantics.specs.Spans.{Span}
+use Rattle.no_semantics.specs.Rows.{Row, affordable, computed, limited, stuck, unfinished}
 use Rattle.no_semantics.specs.States.{Frame, State, instr_at, function_at}
 use Rattle.no_semantics.specs.Values.{Program}
+use Rattle.no_whole_machine.proofs.Effects.{one, costs, external_paid}
 
 -- ---- rows
 
 abbrev pub Costs : Row → Type 0
 Costs r = 1 ≤ r.cost
-
-pub one : 1 ≤ 1
-one = omega arith
 
 with_given : {A : Type 0} (o : Option A) (f : A → Row) → ((x : A) → Costs (f x)) → Costs (given stuck o f)
 with_given None f each = one
@@ -106,146 +99,6 @@ of_ret p (Some x) s = with_given _ _ (λ n. of_returned p (Some n) s.callers s)
 
 -- ---- externals
 
-abbrev Paid : ext.Outcome → Type 0
-Paid (ext.Gives v cost) = 1 ≤ cost
-Paid (ext.Does cost) = 1 ≤ cost
-Paid ext.Over = ⊥
-Paid _ = Unit {0}
-
-of_effect : (into : Option ℕ) (o : ext.Outcome) (e : ext.Effect) (s : State) → Paid o → Costs (outcome_row into o e s)
-of_effect into (ext.Gives v cost) e s paid = paid
-of_effect into (ext.Does cost) e s paid = paid
-of_effect into (ext.Exits c) e s paid = one
-of_effect into (ext.Traps t) e s paid = one
-of_effect into ext.Over e s paid = absurd paid
-of_effect into ext.Stuck e s paid = one
-
-some_cost : (n : ℕ) → 1 ≤ 1 + n / 64
-some_cost n = omega arith
-
-text_paid : (b : Bool) (l room at : ℕ) (w : ext.World) → (l == room) ≡ b → Paid (ext.put_text room l at w).outcome
-text_paid true l room at w e = rw e tt
-text_paid false l room at w e = rw e (some_cost l)
-
-puts_paid : (r : Regions) (at : ℕ) (w : ext.World) → Paid (ext.do_puts r at w).outcome
-unfolding ext.do_puts
-puts_paid r at w = text_paid _ (ext.text_length w.byte at (ext.room_of r at)) (ext.room_of r at) at w refl
-
-malloc_paid : (size : ℕ) (w : ext.World) → Paid (ext.do_malloc size w).outcome
-unfolding ext.do_malloc
-malloc_paid size w = one
-
-cleared_paid : (o : Option ℕ) (size : ℕ) (w : ext.World) → Paid (ext.cleared o size w).outcome
-cleared_paid None size w = one
-cleared_paid (Some place) size w = some_cost size
-
-calloc_paid : (count size : ℕ) (w : ext.World) → Paid (ext.do_calloc count size w).outcome
-unfolding ext.do_calloc
-calloc_paid count size w = cleared_paid (fit w.heap (count * size)) (count * size) w
-
-free_paid : (at : ℕ) (w : ext.World) → Paid (ext.do_free at w).outcome
-unfolding ext.do_free
-free_paid at w = elim (cases_Bool (at == 0)) [
-  | inl is ↦ rw is one
-  | inr other ↦ elim (cases_Bool (size_at w.heap at == 0)) [
-    | inl none ↦ rw (other, none) tt
-    | inr some ↦ rw (other, some) one
-  ]
-]
-
-put_paid : (o : Option Trap) (reads : List Span) (at n : ℕ) (bytes : List ℕ) (w : ext.World) → Paid (ext.put_bytes o reads at n bytes w).outcome
-put_paid None reads at n bytes w = some_cost n
-put_paid (Some t) reads at n bytes w = tt
-
-move_paid : (r : Regions) (to from n : ℕ) (w : ext.World) → Paid (ext.do_move r to from n w).outcome
-unfolding ext.do_move
-move_paid r to from n w = elim (cases_Bool (n == 0)) [
-  | inl is ↦ rw is one
-  | inr other ↦ rw other (put_paid _ _ to n _ w)
-]
-
-set_paid : (r : Regions) (to value n : ℕ) (w : ext.World) → Paid (ext.do_set r to value n w).outcome
-unfolding ext.do_set
-set_paid r to value n w = elim (cases_Bool (n == 0)) [
-  | inl is ↦ rw is one
-  | inr other ↦ rw other (put_paid _ _ to n _ w)
-]
-
-valued_paid : (b : Bool) (v : ℕ) (w : ext.World) → Paid (ext.valued b v w).outcome
-valued_paid true v w = one
-valued_paid false v w = tt
-
-getchar_paid : (w : ext.World) → Paid (ext.do_getchar w).outcome
-unfolding ext.do_getchar
-getchar_paid w = one
-
-putchar_paid : (c : ℕ) (w : ext.World) → Paid (ext.do_putchar c w).outcome
-unfolding ext.do_putchar
-putchar_paid c w = one
-
-swap_paid : (n a : ℕ) (w : ext.World) → Paid (ext.do_swap n a w).outcome
-unfolding ext.do_swap
-swap_paid n a w = valued_paid _ _ w
-
-umin_paid : (n a b : ℕ) (w : ext.World) → Paid (ext.do_umin n a b w).outcome
-unfolding ext.do_umin
-umin_paid n a b w = valued_paid _ _ w
-
-umax_paid : (n a b : ℕ) (w : ext.World) → Paid (ext.do_umax n a b w).outcome
-unfolding ext.do_umax
-umax_paid n a b w = valued_paid _ _ w
-
-smin_paid : (n a b : ℕ) (w : ext.World) → Paid (ext.do_smin n a b w).outcome
-unfolding ext.do_smin
-smin_paid n a b w = valued_paid _ _ w
-
-smax_paid : (n a b : ℕ) (w : ext.World) → Paid (ext.do_smax n a b w).outcome
-unfolding ext.do_smax
-smax_paid n a b w = valued_paid _ _ w
-
-none_paid : (args : List ℕ) (f : ext.World → ext.Effect) (w : ext.World) → ((v : ext.World) → Paid (f v).outcome) → Paid (ext.with_none args f w).outcome
-none_paid [] f w each = each w
-none_paid (a ∷ args) f w each = tt
-
-one_paid : (args : List ℕ) (f : ℕ → ext.World → ext.Effect) (w : ext.World) → ((a : ℕ) (v : ext.World) → Paid (f a v).outcome) → Paid (ext.with_one args f w).outcome
-one_paid [] f w each = tt
-one_paid (a ∷ []) f w each = each a w
-one_paid (a ∷ b ∷ args) f w each = tt
-
-two_paid : (args : List ℕ) (f : ℕ → ℕ → ext.World → ext.Effect) (w : ext.World) → ((a b : ℕ) (v : ext.World) → Paid (f a b v).outcome) → Paid (ext.with_two args f w).outcome
-two_paid [] f w each = tt
-two_paid (a ∷ []) f w each = tt
-two_paid (a ∷ b ∷ []) f w each = each a b w
-two_paid (a ∷ b ∷ c ∷ args) f w each = tt
-
-four_paid : (args : List ℕ) (f : ℕ → ℕ → ℕ → ext.World → ext.Effect) (w : ext.World) → ((a b c : ℕ) (v : ext.World) → Paid (f a b c v).outcome) → Paid (ext.with_four args f w).outcome
-four_paid [] f w each = tt
-four_paid (a ∷ []) f w each = tt
-four_paid (a ∷ b ∷ []) f w each = tt
-four_paid (a ∷ b ∷ c ∷ []) f w each = tt
-four_paid (a ∷ b ∷ c ∷ d ∷ []) f w each = each a b c w
-four_paid (a ∷ b ∷ c ∷ d ∷ e ∷ args) f w each = tt
-
-external_paid : (r : Regions) (e : External) (args : List ℕ) (w : ext.World) → Paid (ext.do_external r e args w).outcome
-external_paid r external.GetChar args w = none_paid args ext.do_getchar w getchar_paid
-external_paid r external.PutChar args w = one_paid args ext.do_putchar w putchar_paid
-external_paid r external.Puts args w = one_paid args (ext.do_puts r) w (puts_paid r)
-external_paid r external.Malloc args w = one_paid args ext.do_malloc w malloc_paid
-external_paid r external.Calloc args w = two_paid args ext.do_calloc w calloc_paid
-external_paid r external.Free args w = one_paid args ext.do_free w free_paid
-external_paid r external.Exit args w = one_paid args ext.do_exit w (λ a v. tt)
-external_paid r external.Abort args w = none_paid args ext.do_abort w (λ v. tt)
-external_paid r external.Move args w = four_paid args (ext.do_move r) w (move_paid r)
-external_paid r external.Set args w = four_paid args (ext.do_set r) w (set_paid r)
-external_paid r (external.Swap n) args w = one_paid args (ext.do_swap n) w (swap_paid n)
-external_paid r (external.UMin n) args w = two_paid args (ext.do_umin n) w (umin_paid n)
-external_paid r (external.UMax n) args w = two_paid args (ext.do_umax n) w (umax_paid n)
-external_paid r (external.SMin n) args w = two_paid args (ext.do_smin n) w (smin_paid n)
-external_paid r (external.SMax n) args w = two_paid args (ext.do_smax n) w (smax_paid n)
-external_paid r external.Hint args w = one
-external_paid r external.Alloca args w = tt
-external_paid r external.Map args w = tt
-
 of_room : (into : Option ℕ) (ns : List ℕ) (s : State) → Costs (row_room into ns s)
 of_room into [] s = one
 of_room into (n ∷ []) s = one
@@ -259,7 +112,7 @@ of_map p into (at ∷ []) s = of_arrived s _
 of_map p into (at ∷ b ∷ more) s = one
 
 of_done : (p : Program) (into : Option ℕ) (e : External) (ns : List ℕ) (s : State) → Costs (row_effect into (ext.do_external p.regions e ns (record { byte = s.byte; heap = s.heap; input = s.input })) s)
-of_done p into e ns s = of_effect into _ _ s (external_paid p.regions e ns (record { byte = s.byte; heap = s.heap; input = s.input }))
+of_done p into e ns s = costs into (ext.do_external p.regions e ns (record { byte = s.byte; heap = s.heap; input = s.input })) s (external_paid p.regions e ns (record { byte = s.byte; heap = s.heap; input = s.input }))
 
 of_external : (p : Program) (into : Option ℕ) (e : External) (ns : List ℕ) (s : State) → Costs (row_external p into e ns s)
 of_external p into external.Alloca ns s = of_room into ns s
@@ -333,7 +186,7 @@ of_op p into op.Unreachable s = one
 
 -- ---- within a budget
 
-not_zero : (n : ℕ) → 1 ≤ n → (n == 0) ≡ false
+pub not_zero : (n : ℕ) → 1 ≤ n → (n == 0) ≡ false
 not_zero n some = elim (cases_Bool (n == 0)) [
   | inl is ↦ (let e : n ≡ 0 = eqb-true n 0 is in absurd (omega (arith, e)))
   | inr other ↦ other

@@ -1,14 +1,14 @@
 -- A step of a machine is one of its core.
-use Rattle.std.proofs.Common.{◌≡◌, ℕ, ◌+◌, ◌%◌, ◌≤◌, nat_lt, if◌then◌else◌, inl, inr, Bool, true, false, List, Option, Some, None, refl, sym, ap, subst, ◌∙◌, arith}
+use Rattle.std.proofs.Common.{◌≡◌, ℕ, ◌+◌, ◌%◌, ◌≤◌, nat_lt, if◌then◌else◌, inl, inr, Bool, List, Option, Some, None, refl, sym, ap, subst, ◌∙◌, arith}
 use Rattle.std.proofs.lemmas.Bool.{cases_Bool, ltb-false}
 use Rattle.no_ir.specs.declared.ending.End.{End}
 use Rattle.no_ir.specs.declared.ending.End.TheVariants.{Exited, Trapped, Unfinished}
-use Rattle.no_semantics.specs.Rows.{Row, Next, Calling, Goes, Leaves, Ends, Stuck, affordable, unfinished}
+use Rattle.no_semantics.specs.Rows.{Row, Next, Calling, Goes, Leaves, Ends, affordable, unfinished}
 use Rattle.no_semantics.specs.States.{State}
 use Rattle.no_whole_machine.specs.Acted.{Does, IsSame, IsSameEnv, IsOver}
-use Rattle.no_whole_machine.specs.Running.{EndsSo, HasEnded, HasNoMeaning, IsStill, Takes, Waits}
+use Rattle.no_whole_machine.specs.Running.{EndsSo, HasEnded, HasNoMeaning, Takes, Waits}
 use Rattle.no_whole_machine.specs.Told.{answer_of, cost_of, stop_of}
-use Rattle.no_whole_machine.specs.declared.env.Env.{Env}
+use Rattle.no_lib.specs.declared.env.Env.{Env}
 use Rattle.no_whole_machine.specs.declared.machine.Machine.{Machine}
 use Rattle.no_whole_machine.specs.declared.machine.StepAnswer.{StepAnswer}
 use Rattle.no_whole_machine.specs.declared.state.Acted.{Acted}

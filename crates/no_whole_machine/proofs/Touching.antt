@@ -1,11 +1,11 @@
 -- Loads and stores beside their rows.
-use Rattle.std.proofs.Common.{◌≡◌, ℕ, zero, suc, ◌+◌, ◌-◌, ◌%◌, ◌^◌, ◌<◌, ◌≤◌, ◌==◌, ◌++◌, ◌⊎◌, inl, inr, if◌then◌else◌, Bool, true, false, List, [], ◌∷◌, Option, Some, None, refl, sym, ap, subst, ◌∙◌, append-nil, arith}
+use Rattle.std.proofs.Common.{◌≡◌, ℕ, zero, suc, ◌+◌, ◌%◌, ◌^◌, ◌<◌, ◌≤◌, ◌==◌, ◌⊎◌, inl, inr, if◌then◌else◌, Bool, true, false, List, [], ◌∷◌, Option, Some, None, refl, sym, ap, subst, ◌∙◌, append-nil, arith}
 use Rattle.std.proofs.lemmas.Bool.{cases_Bool, cases_lt, eqb-true}
 use Rattle.no_ir.specs.declared.ending.End.TheVariants.{Trapped}
 use Rattle.no_ir.specs.declared.ending.Trap.{Trap}
 use Rattle.no_ir.specs.declared.instruction.Operand.{Operand}
 use Rattle.no_ir.specs.declared.types.Ty.{Ty}
-use Rattle.no_layout.proofs.Accesses.{done_held, all_held, named_absent}
+use Rattle.no_layout.proofs.Accesses.{done_held, named_absent}
 use Rattle.no_layout.proofs.Agreeing.{done_agrees, writes_agree}
 use Rattle.no_layout.specs.Memory.{Agrees, access, answer, refusal, first_absent, page_of, page_count, read_number, write_number}
 use Rattle.no_layout.specs.Orders.{bytes_of, number_of}
@@ -16,14 +16,14 @@ use Rattle.no_layout.specs.declared.memory.Regions.{Regions}
 use Rattle.no_layout.specs.declared.width.Width.{Width}
 use Rattle.no_layout.specs.declared.width.Width.TheVariants.{One, Two, Four, Eight}
 use Rattle.no_semantics.specs.Access.{row_load, row_store, fetched, stored}
-use Rattle.no_semantics.specs.Registers.{given, operand_of, pointer_of}
-use Rattle.no_semantics.specs.Results.{load_value, loaded, reading, bytes_of_type}
-use Rattle.no_semantics.specs.Rows.{Row, Goes, Ends, plain, needed, trapping}
-use Rattle.no_semantics.specs.Spans.{Span, AreHeld, IsLowestAbsent, Touches, span_of}
+use Rattle.no_semantics.specs.Registers.{operand_of, pointer_of}
+use Rattle.no_semantics.specs.Results.{load_value, loaded, bytes_of_type}
+use Rattle.no_semantics.specs.Rows.{Row, Goes, Ends, plain, needed}
+use Rattle.no_semantics.specs.Spans.{AreHeld, IsLowestAbsent, Touches, span_of}
 use Rattle.no_semantics.specs.States as states
 use Rattle.no_semantics.specs.Values.{Program, width_of as bits_of}
 use Rattle.no_semantics.specs.Accepted.{Accepted}
-use Rattle.no_whole_machine.specs.Acted.{HasActed, IsSame}
+use Rattle.no_whole_machine.specs.Acted.{HasActed}
 use Rattle.no_whole_machine.specs.Held.{assigned_frame, frame_of, moved_frame, program_in, state_in}
 use Rattle.no_whole_machine.specs.declared.state.Core.{Core}
 

@@ -9,7 +9,7 @@ use Rattle.no_semantics.specs.States.{State}
 use Rattle.no_semantics.specs.Rows.{Row, Calling, Next, Goes, Leaves, Ends, Stuck, plain, needed}
 use Rattle.no_whole_machine.specs.Held.{state_in}
 use Rattle.no_semantics.specs.Spans.{AreHeld, IsLowestAbsent}
-use Rattle.no_whole_machine.specs.declared.env.Env.{Env}
+use Rattle.no_lib.specs.declared.env.Env.{Env}
 use Rattle.no_whole_machine.specs.declared.state.Acted.{Acted}
 use Rattle.no_whole_machine.specs.declared.state.Acted.TheVariants as acted
 use Rattle.no_whole_machine.specs.declared.state.Core.{Core}

@@ -1,5 +1,5 @@
 -- What the machine does on an edge between blocks.
-use Rattle.std.specs.Prelude.{◌≡◌, ◌<◌, ℕ, List, [], ◌++◌, length, Option, Some, None}
+use Rattle.std.specs.Prelude.{◌≡◌, ◌<◌, ℕ, List, ◌++◌, length, Option, Some, None}
 use Rattle.no_ir.specs.declared.types.Ty.{Ty}
 use Rattle.no_ir.specs.declared.instruction.Operand.{Operand}
 use Rattle.no_semantics.specs.Control.{Move, put_all, taken}

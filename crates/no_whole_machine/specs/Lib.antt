@@ -5,6 +5,6 @@ pub mod Acted
 pub mod Edges
 pub mod Called
 pub mod Returned
-pub mod Served
+pub mod Answered
 pub mod Told
 pub mod Running

@@ -1,8 +1,8 @@
 -- A machine, and what a step of it does.
-use Rattle.std.specs.Prelude.{◌≡◌, ◌⊎◌, ℕ, Bool, true, false, ◌+◌, ◌-◌, ◌%◌, List, [], ◌∷◌, ◌++◌, Option, Some, None}
+use Rattle.std.specs.Prelude.{◌≡◌, ℕ, Bool, true, false, ◌+◌, ◌-◌, ◌%◌, List, [], ◌++◌, Option, Some, None}
 use Rattle.no_ir.specs.declared.ending.End.{End}
 use Rattle.no_ir.specs.declared.ending.End.TheVariants.{Exited}
-use Rattle.no_layout.specs.Memory.{Agrees, stack_end}
+use Rattle.no_layout.specs.Memory.{Agrees}
 use Rattle.no_layout.specs.declared.memory.Regions.{Regions}
 use Rattle.no_semantics.specs.Accepted.{Accepted}
 use Rattle.no_semantics.specs.Acting.{step}
@@ -13,7 +13,7 @@ use Rattle.no_semantics.specs.Values.{Program}
 use Rattle.no_whole_machine.specs.Acted.{IsSameEnv}
 use Rattle.no_whole_machine.specs.Called.{AreTaken}
 use Rattle.no_whole_machine.specs.Held.{IsKept, program_in, state_in}
-use Rattle.no_whole_machine.specs.declared.env.Env.{Env}
+use Rattle.no_lib.specs.declared.env.Env.{Env}
 use Rattle.no_whole_machine.specs.declared.machine.Machine.{Machine}
 use Rattle.no_whole_machine.specs.declared.machine.StepAnswer.{StepAnswer}
 use Rattle.no_whole_machine.specs.declared.machine.StepAnswer.TheVariants as answer

@@ -17,7 +17,7 @@ use std::alloc::Global;
 use std::mem;
 
 /// Where the first function stands.
-const FUNCTIONS: u64 = 0xF000_0000;
+pub(crate) const FUNCTIONS: u64 = 0xF000_0000;
 
 /// By how much a call lowers the stack pointer.
 const CALL_ROOM: u32 = 16;

@@ -7,15 +7,12 @@ ghost use Rattle.no_semantics.specs.Sound.{args_fit, operand_fits};
 ghost use Rattle.no_whole_machine.specs.Acted.{Does};
 ghost use Rattle.no_whole_machine.specs.Called.{AreTaken};
 ghost use Rattle.no_whole_machine.specs.Held.{IsKept, program_in, state_in};
-ghost use Rattle.no_whole_machine.specs.Served.{AreServed, FunctionServed};
-ghost use Rattle.no_module.specs.Externals.{external_of};
-ghost use Rattle.no_module.specs.Functions.{is_declared};
 
 use crate::calls::Arguments;
-use crate::env::Env;
 use crate::state::{Acted, Core, Outcome};
 use no_ir::{Function, Operand, Ty};
 use no_layout::Memory;
+use no_lib::Env;
 use no_module::{external_of, is_declared};
 use no_semantics::Sound;
 
@@ -40,7 +37,6 @@ impl<M: Memory> Core<M> {
     ) -> Acted
         requires room { self.old.frame.at + 1 < 2 ^ 64 }
         requires some { 0 < left }
-        requires served { is_declared function.now ≡ true → FunctionServed (external_of sound.now.role function.now) }
         ensures does { (whole : ℕ → ℕ) → (more : List ℕ) → Agrees (M.held self.old.mem) (M.byte self.old.mem) whole → (env.old.ended ≡ true → more ≡ []) → Does M.byte M.held (affordable left (invoked (program_in M.regions sound.now self.old) into k numbers.now (state_in self.old whole (env.old.input ++ more)) function.now)) result self.old self.new env.old env.new more }
         ensures kept { IsKept M.regions M.held self.old self.new }
     {
@@ -68,7 +64,6 @@ impl<M: Memory> Core<M> {
         requires room { self.old.frame.at + 1 < 2 ^ 64 }
         requires some { 0 < left }
         requires taken { AreTaken sound.now.«module» self.old.taken }
-        requires served { AreServed sound.now }
         requires operand { operand_fits sound.now.«module» sound.now.layout sound.now.sizes callee.now ≡ true }
         requires args { args_fit sound.now.«module» sound.now.layout sound.now.sizes args.now ≡ true }
         ensures does { (whole : ℕ → ℕ) → (more : List ℕ) → Agrees (M.held self.old.mem) (M.byte self.old.mem) whole → (env.old.ended ≡ true → more ≡ []) → Does M.byte M.held (affordable left (row_call (program_in M.regions sound.now self.old) into t.now callee.now args.now (state_in self.old whole (env.old.input ++ more)))) result self.old self.new env.old env.new more }

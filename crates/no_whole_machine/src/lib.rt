@@ -5,7 +5,6 @@ mod access;
 mod act;
 mod calls;
 mod edges;
-mod env;
 mod externals;
 mod frame;
 mod invoke;
@@ -19,6 +18,5 @@ mod state;
 mod steps;
 mod values;
 
-pub use env::Env;
 pub use machine::{Machine, StepAnswer};
 pub use steps::Steps;

@@ -5,16 +5,15 @@ ghost use Rattle.no_whole_machine.specs.Acted.{MayLackMemory};
 ghost use Rattle.no_whole_machine.specs.Called.{HasNoMarks};
 ghost use Rattle.no_whole_machine.specs.Counted.{counted};
 ghost use Rattle.no_whole_machine.specs.Held.{frame_of};
-ghost use Rattle.no_whole_machine.specs.Served.{AreServed};
 ghost use Rattle.no_whole_machine.specs.Told.{answer_of, cost_of, stop_of};
 ghost use Rattle.no_whole_machine.specs.Running.{HasNotMoved, IsFor, Stays, Takes, budget_of, count_of, end_of, memory_of, program_of, row_of};
 
 use crate::Steps;
-use crate::env::Env;
 use crate::state::{Acted, Core};
 use no_heap::Heap;
 use no_ir::End;
 use no_layout::Memory;
+use no_lib::Env;
 use no_semantics::Sound;
 use std::sync::ledger::Ledger;
 
@@ -99,7 +98,6 @@ impl<M: Memory> Machine<M> {
         requires within { count_of self.old ≤ budget_of self.old }
         requires made { IsFor sound.now self.old }
         requires marks { HasNoMarks sound.now.«module» }
-        requires served { AreServed sound.now }
         ensures takes { end_of self.old ≡ None → (whole : ℕ → ℕ) → (more : List ℕ) → Agrees (M.held (memory_of self.old)) (M.byte (memory_of self.old)) whole → (env.old.ended ≡ true → more ≡ []) → Takes M.byte M.held (row_of M.regions sound.now self.old whole (env.old.input ++ more)) result self.old self.new env.old env.new more }
         ensures over { HasNotMoved (end_of self.old) result self.old self.new env.old env.new }
         ensures stays { Stays M.regions M.held self.old self.new }

@@ -1,4 +1,4 @@
-use Rattle.std.proofs.Common.{◌≡◌, ◌++◌, ◌∙◌, List, sym, ap, subst}
+use Rattle.std.proofs.Common.{◌++◌, sym, subst}
 use Rattle.no_ir.specs.declared.instruction.Op.{Op}
 use Rattle.no_semantics.specs.Acting.{row_of_op}
 use Rattle.no_semantics.specs.Calls.{row_call}

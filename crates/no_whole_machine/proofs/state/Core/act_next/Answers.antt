@@ -1,6 +1,6 @@
-use Rattle.std.proofs.Common.{◌≡◌, ◌++◌, ◌∙◌, [], ℕ, refl, sym, ap, subst}
+use Rattle.std.proofs.Common.{◌++◌, ◌∙◌, [], refl, sym, subst}
 use Rattle.std.proofs.lemmas.Bool.{eqb-true}
-use Rattle.no_semantics.specs.Acting.{row_of_op, step}
+use Rattle.no_semantics.specs.Acting.{row_of_op}
 use Rattle.no_semantics.specs.Rows.{Row}
 use Rattle.no_whole_machine.specs.Acted.{Does}
 use Rattle.no_whole_machine.specs.Held.{program_in, state_in}

@@ -1,4 +1,4 @@
-use Rattle.std.proofs.Common.{◌≡◌, ◌++◌, ◌∙◌, sym, ap, subst}
+use Rattle.std.proofs.Common.{◌++◌, ◌∙◌, sym, ap, subst}
 use Rattle.no_semantics.specs.Calls.{arguments_of, invoked, row_call}
 use Rattle.no_semantics.specs.Rows.{Row, affordable}
 use Rattle.no_whole_machine.specs.Acted.{Does}
@@ -8,9 +8,6 @@ use Rattle.no_whole_machine.specs.Outcomes.{value_of}
 use Rattle.no_whole_machine.proofs.Acting.{next_stuck, traps_does, lacks_does}
 use Rattle.no_whole_machine.proofs.Invoking.{traps_call, no_callee, no_arguments, no_function, call_invokes}
 use Rattle.no_whole_machine.proofs.state.Core.call.Goals as goal
-
-pub invoke-requires-clause-served : goal.invoke-requires-clause-served
-invoke-requires-clause-served g c = c.requires.served c.in-Number.k c.in-Some.function.now (sym c.in-Some.ensures)
 
 pub returns-in-Traps-clause-does : goal.returns-in-Traps-clause-does
 returns-in-Traps-clause-does g c = λ whole more agrees ended.

@@ -1,4 +1,4 @@
-use Rattle.std.proofs.Common.{ℕ, List, ◌≡◌, sym, subst}
+use Rattle.std.proofs.Common.{sym, subst}
 use Rattle.no_semantics.specs.Results.{Valued}
 use Rattle.no_semantics.specs.Rows.{computed}
 use Rattle.no_whole_machine.specs.Acted.{Moves}

@@ -1,17 +1,13 @@
-use Rattle.std.proofs.Common.{◌≡◌, ◌++◌, ◌∙◌, sym, ap, subst}
+use Rattle.std.proofs.Common.{◌++◌, ◌∙◌, sym, ap, subst}
 use Rattle.no_ir.specs.declared.function.Role.{Role}
 use Rattle.no_module.specs.Externals.{external_of}
 use Rattle.no_semantics.specs.Calls.{entered, invoked}
 use Rattle.no_semantics.specs.Rows.{Row, affordable}
 use Rattle.no_whole_machine.specs.Acted.{Does}
 use Rattle.no_whole_machine.specs.Held.{program_in, state_in}
-use Rattle.no_whole_machine.specs.Served.{FunctionServed}
 use Rattle.no_whole_machine.proofs.Acting.{acts_does, enters_acts, next_stuck}
 use Rattle.no_whole_machine.proofs.Invoking.{invoked_enters, invoked_external, invoked_none}
 use Rattle.no_whole_machine.proofs.state.Core.invoke.Goals as goal
-
-pub call_external-requires-clause-served : goal.call_external-requires-clause-served
-call_external-requires-clause-served g c = subst FunctionServed (ap (λ (r : Role). external_of r c.args.function.now) (sym c.role.ensures) ∙ sym c.external_of.ensures ∙ c.in-Some.is) (c.requires.served (sym c.is_declared.ensures ∙ c.if-is_declared.true))
 
 pub returns-in-Some-clause-does : goal.returns-in-Some-clause-does
 returns-in-Some-clause-does g c = λ whole more agrees ended.

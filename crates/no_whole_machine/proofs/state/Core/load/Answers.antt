@@ -1,4 +1,4 @@
-use Rattle.std.proofs.Common.{◌≡◌, ◌∙◌, ◌%◌, ◌^◌, sym, ap, refl}
+use Rattle.std.proofs.Common.{◌∙◌, ◌%◌, ◌^◌, sym, ap, refl}
 use Rattle.no_semantics.specs.Values.{bytes_of_width}
 use Rattle.no_whole_machine.proofs.Touching.{load_done, load_missing, load_refused}
 use Rattle.no_whole_machine.proofs.state.Core.load.Goals as goal
