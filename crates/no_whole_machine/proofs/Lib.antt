@@ -11,3 +11,6 @@ pub mod Marking
 pub mod Serving
 pub mod Taking
 pub mod Going
+pub mod Flags
+pub mod Booting
+pub mod Slices

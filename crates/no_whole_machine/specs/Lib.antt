@@ -8,3 +8,6 @@ pub mod Returned
 pub mod Answered
 pub mod Told
 pub mod Running
+pub mod Marked
+pub mod Booted
+pub mod Ran

@@ -20,7 +20,7 @@ use std::mem;
 pub(crate) const FUNCTIONS: u64 = 0xF000_0000;
 
 /// By how much a call lowers the stack pointer.
-const CALL_ROOM: u32 = 16;
+pub(crate) const CALL_ROOM: u32 = 16;
 
 /// What reading the arguments of a call gave.
 #[derive(Debug, Drop)]
@@ -82,7 +82,7 @@ fn flag(flags: &[bool], k: u64) -> bool
 }
 
 /// As many registers that nothing was assigned to.
-fn unassigned(alloc: Global, count: usize) -> Result<List<Option<u64>>, NoMemory>
+pub(crate) fn unassigned(alloc: Global, count: usize) -> Result<List<Option<u64>>, NoMemory>
     ensures { IfOk result (λ registers. registers ≡ replicate count None) }
 {
     let mut registers = List::new(alloc);

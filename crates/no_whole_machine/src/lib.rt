@@ -3,6 +3,7 @@
 
 mod access;
 mod act;
+mod boot;
 mod calls;
 mod edges;
 mod externals;
@@ -14,8 +15,10 @@ mod next;
 mod operands;
 mod paths;
 mod returns;
+mod run;
 mod state;
 mod steps;
+mod taken;
 mod values;
 
 pub use machine::{Machine, StepAnswer};

@@ -37,10 +37,10 @@ pub enum StepAnswer {
 /// A run of a module over a memory, within a budget.
 #[derive(Drop)]
 pub struct Machine<M: Memory> {
-    core: Core<M>,
-    count: u64,
-    budget: u64,
-    end: Option<End>,
+    pub(crate) core: Core<M>,
+    pub(crate) count: u64,
+    pub(crate) budget: u64,
+    pub(crate) end: Option<End>,
 }
 
 /// What an instruction counts.
@@ -102,6 +102,7 @@ impl<M: Memory> Machine<M> {
         ensures over { HasNotMoved (end_of self.old) result self.old self.new env.old env.new }
         ensures stays { Stays M.regions M.held self.old self.new }
         ensures within { count_of self.new ≤ budget_of self.new }
+        ensures later { count_of self.old ≤ count_of self.new }
         ensures made { IsFor sound.now self.new }
         ensures enough { result ≡ StepAnswer.NoMemory → MayLackMemory (instr_at (program_of M.regions sound.now self.old) (frame_of self.old.core.frame)) }
         // The counter rises by what was counted.
