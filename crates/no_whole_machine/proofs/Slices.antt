@@ -90,13 +90,14 @@ module _ {M : Type 0} (byte : M → ℕ → ℕ) (held : M → ℕ → Bool) (re
       one ∙ two
 
   pub stays_here : (m : Machine M) → Stays regions held m m
-  stays_here m = record { core = record { same_addresses = refl; same_taken = refl; same_regions = refl; same_pages = refl }; budget = refl }
+  stays_here m = record { core = record { same_addresses = refl; same_taken = refl; same_labels = refl; same_regions = refl; same_pages = refl }; budget = refl }
 
   pub stays_then : (old mid new : Machine M) → Stays regions held old mid → Stays regions held mid new → Stays regions held old new
   stays_then old mid new one two = record {
     core = record {
       same_addresses = two.core.same_addresses ∙ one.core.same_addresses;
       same_taken = two.core.same_taken ∙ one.core.same_taken;
+      same_labels = two.core.same_labels ∙ one.core.same_labels;
       same_regions = two.core.same_regions ∙ one.core.same_regions;
       same_pages = two.core.same_pages ∙ one.core.same_pages;
     };

@@ -44,5 +44,6 @@ program_in regions a m = record {
 pub record IsKept {M : Type 0} (regions : M → Regions) (held : M → ℕ → Bool) (old new : Core M) : Type 0 where
   pub same_addresses : new.addresses ≡ old.addresses
   pub same_taken : new.taken ≡ old.taken
+  pub same_labels : new.labels ≡ old.labels
   pub same_regions : regions new.mem ≡ regions old.mem
   pub same_pages : held new.mem ≡ held old.mem

@@ -8,6 +8,7 @@ pub mod Returned
 pub mod Answered
 pub mod Told
 pub mod Running
+pub mod Labels
 pub mod Marked
 pub mod Booted
 pub mod Ran

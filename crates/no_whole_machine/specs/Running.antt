@@ -12,6 +12,7 @@ use Rattle.no_semantics.specs.States.{State}
 use Rattle.no_semantics.specs.Values.{Program}
 use Rattle.no_whole_machine.specs.Acted.{IsSameEnv}
 use Rattle.no_whole_machine.specs.Called.{AreTaken}
+use Rattle.no_whole_machine.specs.Labels.{AreTables}
 use Rattle.no_whole_machine.specs.Held.{IsKept, program_in, state_in}
 use Rattle.no_lib.specs.declared.env.Env.{Env}
 use Rattle.no_whole_machine.specs.declared.machine.Machine.{Machine}
@@ -45,7 +46,7 @@ end_of m = m.end
 
 -- it was made for this module
 abbrev pub IsFor : {M : Type 0} → Accepted → Machine M → Type 0
-IsFor a m = AreTaken a.«module» m.core.taken
+IsFor a m = AreTaken a.«module» m.core.taken × AreTables a.«module».functions m.core.labels
 
 -- what its next instruction does, within what is left of its budget
 abbrev pub row_of : {M : Type 0} → (M → Regions) → Accepted → Machine M → (ℕ → ℕ) → List ℕ → Row

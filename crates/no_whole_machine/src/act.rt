@@ -6,6 +6,7 @@ ghost use Rattle.no_semantics.specs.Rows.{computed};
 ghost use Rattle.no_semantics.specs.Sound.{op_fits};
 ghost use Rattle.no_whole_machine.specs.Acted.{Acts, IsNoCall, OpTakesMemory};
 ghost use Rattle.no_whole_machine.specs.Held.{IsKept, program_in, state_in};
+ghost use Rattle.no_whole_machine.specs.Labels.{AreTables};
 ghost use Rattle.no_whole_machine.specs.Outcomes.{value_of};
 
 use crate::state::{Acted, Core, Outcome};
@@ -29,6 +30,7 @@ impl<M: Memory> Core<M> {
         requires room { self.old.frame.at + 1 < 2 ^ 64 }
         requires fits { op_fits sound.now.«module» sound.now.layout sound.now.sizes op.now ≡ true }
         requires plain { IsNoCall op.now }
+        requires labels { AreTables sound.now.«module».functions self.old.labels }
         ensures acts { (whole : ℕ → ℕ) → (input : List ℕ) → Agrees (M.held self.old.mem) (M.byte self.old.mem) whole → Acts M.byte M.held (row_of_op (program_in M.regions sound.now self.old) into op.now (state_in self.old whole input)) result self.old self.new input }
         ensures kept { IsKept M.regions M.held self.old self.new }
         ensures enough { result ≡ Acted.NoMemory → OpTakesMemory op.now }

@@ -7,6 +7,7 @@ ghost use Rattle.no_whole_machine.specs.Held.{frame_of};
 
 use crate::calls::{CALL_ROOM, unassigned};
 use crate::frame::Frame;
+use crate::labels::tables_of;
 use crate::machine::Machine;
 use crate::state::{Core, put_result};
 use crate::taken::taken;
@@ -65,7 +66,8 @@ impl<M: Memory> Machine<M> {
     /// parameter is 0, and the stack is empty.
     ///
     /// The addresses are those of the module's globals, in their order. It takes memory for the registers of `main`, the
-    /// heap's tables, and a flag for each function.
+    /// heap's tables, a flag for each function, and a number
+    /// for each label.
     pub fn boot(
         alloc: Global,
         sound: &Sound,
@@ -78,6 +80,7 @@ impl<M: Memory> Machine<M> {
     {
         let frame = main_frame(alloc, sound.module().functions.as_slice())?;
         let taken = taken(alloc, sound.module())?;
+        let labels = tables_of(alloc, sound.module().functions.as_slice())?;
         let heap = Heap::new(alloc)?;
         Ok(Machine {
             core: Core {
@@ -88,6 +91,7 @@ impl<M: Memory> Machine<M> {
                 heap,
                 addresses,
                 taken,
+                labels,
                 alloc,
             },
             count: 0,

@@ -4,8 +4,10 @@ ghost use Rattle.no_semantics.specs.Control.{block_number, branched, case_label,
 ghost use Rattle.no_semantics.specs.Sound.{block_fits, is_scalar, is_width, operand_fits, pair_fits};
 ghost use Rattle.no_whole_machine.specs.Acted.{Moves};
 ghost use Rattle.no_whole_machine.specs.Edges.{Gathers, Lands, landed_frame, taken_value};
+ghost use Rattle.no_whole_machine.specs.Labels.{AreTables};
 ghost use Rattle.no_whole_machine.specs.Held.{IsKept, frame_of, program_in, state_in};
 
+use crate::labels::block_of;
 use crate::state::{Acted, Core, put_result};
 use no_ir::{Block, Function, Instr, List, Op, Operand, Ty};
 use no_layout::Memory;
@@ -21,7 +23,7 @@ pub(crate) enum Gathered {
 }
 
 /// The number of the first block of a label.
-fn block_number(function: &Function, label: u32) -> Option<u64>
+pub(crate) fn block_number(function: &Function, label: u32) -> Option<u64>
     ensures { result ≡ block_number function.now label }
 {
     for (index, block) in function.blocks.as_slice().iter().enumerate() {
@@ -102,6 +104,7 @@ impl<M: Memory> Core<M> {
     /// Branches to a label.
     #[tactic(auto, unfolding(no_semantics::specs::Control::branched))]
     fn jump(&mut self, sound: &Sound, label: u32) -> Acted
+        requires { AreTables sound.now.«module».functions self.old.labels }
         ensures lands { Lands result (branched (program_in M.regions sound.now self.old) (frame_of self.old.frame) label) self.old self.new }
         ensures kept { IsKept M.regions M.held self.old self.new }
         ensures bytes { M.byte self.new.mem ≡ M.byte self.old.mem }
@@ -112,7 +115,8 @@ impl<M: Memory> Core<M> {
         let Some(from) = function.blocks.get(self.frame.block as usize) else {
             return Acted::Stuck;
         };
-        let Some(number) = block_number(function, label) else {
+        let Some(number) = block_of(self.labels.as_slice(), self.frame.function, function, label)
+        else {
             return Acted::Stuck;
         };
         let Some(to) = sound.block(self.frame.function, number) else {
@@ -130,6 +134,7 @@ impl<M: Memory> Core<M> {
 
     /// "br Instruction"
     pub(crate) fn br(&mut self, sound: &Sound, label: u32) -> Acted
+        requires { AreTables sound.now.«module».functions self.old.labels }
         ensures moves { (byte : ℕ → ℕ) → (input : List ℕ) → Moves (row_br (program_in M.regions sound.now self.old) label (state_in self.old byte input)) result (state_in self.old byte input) (state_in self.new byte input) }
         ensures kept { IsKept M.regions M.held self.old self.new }
         ensures bytes { M.byte self.new.mem ≡ M.byte self.old.mem }
@@ -140,7 +145,8 @@ impl<M: Memory> Core<M> {
     /// "br Instruction" with a condition.
     #[tactic(auto, unfolding(no_semantics::specs::Control::row_cond_br))]
     pub(crate) fn cond_br(&mut self, sound: &Sound, c: &Operand, label: u32, other: u32) -> Acted
-        requires { operand_fits sound.now.«module» sound.now.layout sound.now.sizes c.now ≡ true }
+        requires labels { AreTables sound.now.«module».functions self.old.labels }
+        requires operand { operand_fits sound.now.«module» sound.now.layout sound.now.sizes c.now ≡ true }
         ensures moves { (byte : ℕ → ℕ) → (input : List ℕ) → Moves (row_cond_br (program_in M.regions sound.now self.old) c.now label other (state_in self.old byte input)) result (state_in self.old byte input) (state_in self.new byte input) }
         ensures kept { IsKept M.regions M.held self.old self.new }
         ensures bytes { M.byte self.new.mem ≡ M.byte self.old.mem }
@@ -161,6 +167,7 @@ impl<M: Memory> Core<M> {
         default: u32,
         cases: &[(u64, u32)],
     ) -> Acted
+        requires labels { AreTables sound.now.«module».functions self.old.labels }
         requires width { is_width w ≡ true }
         requires operand { operand_fits sound.now.«module» sound.now.layout sound.now.sizes a.now ≡ true }
         ensures moves { (byte : ℕ → ℕ) → (input : List ℕ) → Moves (row_switch (program_in M.regions sound.now self.old) w a.now default cases.now (state_in self.old byte input)) result (state_in self.old byte input) (state_in self.new byte input) }

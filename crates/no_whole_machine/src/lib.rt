@@ -9,6 +9,7 @@ mod edges;
 mod externals;
 mod frame;
 mod invoke;
+mod labels;
 mod machine;
 mod memory;
 mod next;

@@ -8,6 +8,7 @@ ghost use Rattle.no_semantics.specs.States.{instr_at};
 ghost use Rattle.no_whole_machine.specs.Acted.{Does, MayLackMemory, OpTakesMemory};
 ghost use Rattle.no_whole_machine.specs.Called.{AreTaken, HasNoMarks};
 ghost use Rattle.no_whole_machine.specs.Held.{IsKept, frame_of, program_in, state_in};
+ghost use Rattle.no_whole_machine.specs.Labels.{AreTables};
 ghost use Rattle.no_whole_machine.specs.Told.{cost_of};
 
 use crate::state::{Acted, Core};
@@ -30,6 +31,7 @@ impl<M: Memory> Core<M> {
         requires some { 0 < left }
         requires fits { op_fits sound.now.«module» sound.now.layout sound.now.sizes op.now ≡ true }
         requires taken { AreTaken sound.now.«module» self.old.taken }
+        requires labels { AreTables sound.now.«module».functions self.old.labels }
         ensures does { (whole : ℕ → ℕ) → (more : List ℕ) → Agrees (M.held self.old.mem) (M.byte self.old.mem) whole → (env.old.ended ≡ true → more ≡ []) → Does M.byte M.held (affordable left (row_of_op (program_in M.regions sound.now self.old) into op.now (state_in self.old whole (env.old.input ++ more)))) result self.old self.new env.old env.new more }
         ensures kept { IsKept M.regions M.held self.old self.new }
         ensures enough { result ≡ Acted.NoMemory → OpTakesMemory op.now }
@@ -58,6 +60,7 @@ impl<M: Memory> Core<M> {
     /// Does the next instruction, which is not marked, within what is left of the budget.
     pub(crate) fn act_next(&mut self, sound: &Sound, left: u64, env: &mut Env) -> Acted
         requires taken { AreTaken sound.now.«module» self.old.taken }
+        requires labels { AreTables sound.now.«module».functions self.old.labels }
         requires marks { HasNoMarks sound.now.«module» }
         ensures does { (whole : ℕ → ℕ) → (more : List ℕ) → Agrees (M.held self.old.mem) (M.byte self.old.mem) whole → (env.old.ended ≡ true → more ≡ []) → Does M.byte M.held (step (program_in M.regions sound.now self.old) left (state_in self.old whole (env.old.input ++ more))) result self.old self.new env.old env.new more }
         ensures kept { IsKept M.regions M.held self.old self.new }

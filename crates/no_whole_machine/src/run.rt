@@ -31,6 +31,7 @@ impl<M: Memory> Machine<M> {
         ensures ran { (whole : ℕ → ℕ) → (more : List ℕ) → Agrees (M.held (memory_of self.old)) (M.byte (memory_of self.old)) whole → (env.old.ended ≡ true → more ≡ []) → HasRun M.byte M.held M.regions sound.now limit whole more result self.old self.new env.old env.new }
         ensures stays { Stays M.regions M.held self.old self.new }
         ensures within { count_of self.new ≤ budget_of self.new }
+        ensures later { count_of self.old ≤ count_of self.new }
         ensures made { IsFor sound.now self.new }
         ensures enough { result ≡ StepAnswer.NoMemory → MayLackMemory (instr_at (program_of M.regions sound.now self.new) (frame_of self.new.core.frame)) }
         ensures counts { steps.new ≡ counted sound.now.role (count_of self.new - count_of self.old) steps.old }
@@ -65,6 +66,7 @@ impl<M: Memory> Machine<M> {
         ensures over { HasNotMoved (end_of self.old) result self.old self.new env.old env.new }
         ensures stays { Stays M.regions M.held self.old self.new }
         ensures within { count_of self.new ≤ budget_of self.new }
+        ensures later { count_of self.old ≤ count_of self.new }
         ensures made { IsFor sound.now self.new }
         ensures enough { result ≡ StepAnswer.NoMemory → MayLackMemory (instr_at (program_of M.regions sound.now self.new) (frame_of self.new.core.frame)) }
         ensures counts { steps.new ≡ counted sound.now.role (count_of self.new - count_of self.old) steps.old }

@@ -56,6 +56,8 @@ pub(crate) struct Core<M: Memory> {
     pub addresses: List<u32>,
     /// For each function of the module, whether its address is taken.
     pub taken: List<bool>,
+    /// For each function, the numbers of the blocks of its labels.
+    pub labels: List<List<Option<u64>>>,
     pub alloc: Global,
 }
 

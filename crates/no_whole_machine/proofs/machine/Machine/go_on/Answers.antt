@@ -25,6 +25,7 @@ returns-in_default g c =
           c.in_default.not-Stepped inv.within c.step.ensures.stays (c.step.ensures.takes inv.running gone.there more gone.agrees (λ e. ended (sym gone.same_end ∙ e)));
       stays = stays_then g.M.Memory.byte g.M.Memory.held g.M.Memory.regions c.args.sound.now c.args.self.now c.steps.self c.step.new.self inv.stays c.step.ensures.stays;
       within = c.step.ensures.within;
+      later = omega (arith, inv.later, c.step.ensures.later);
       made = c.step.ensures.made;
       enough = λ is.
           lacks g.M.Memory.byte g.M.Memory.held g.M.Memory.regions c.args.sound.now c.steps.self c.step.new.self c.steps.env c.step.new.env [] (row_of g.M.Memory.regions c.args.sound.now c.steps.self own (c.steps.env.input ++ [])) c.step.result
