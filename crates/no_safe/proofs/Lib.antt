@@ -1,0 +1,11 @@
+pub mod Lists
+pub mod Blocks
+pub mod TypedLists
+pub mod TypedRegisters
+pub mod TypedConstants
+pub mod TypedNames
+pub mod TypedLayout
+pub mod TypedJudged
+pub mod TypedWidths
+pub mod TypedOps
+pub mod Typed
