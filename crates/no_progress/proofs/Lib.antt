@@ -8,3 +8,6 @@ pub mod Effects
 pub mod Calling
 pub mod Acts
 pub mod Beginning
+pub mod Costs
+pub mod Steady
+pub mod Finishing
