@@ -1,5 +1,6 @@
 pub mod Lists
 pub mod Blocks
+pub mod Edges
 pub mod TypedLists
 pub mod TypedRegisters
 pub mod TypedConstants
@@ -9,3 +10,5 @@ pub mod TypedJudged
 pub mod TypedWidths
 pub mod TypedOps
 pub mod Typed
+pub mod Assembly
+pub mod Accepting
