@@ -1,11 +1,10 @@
 -- What the machine of today says of an accepted module.
-use Rattle.std.proofs.Common.{◌≡◌, ℕ, false, List, [], sym, ap, subst, ◌∙◌, refl, Option, Some, None, Result, Err}
+use Rattle.std.proofs.Common.{◌≡◌, ℕ, List, sym, ap, subst, ◌∙◌, Option, Some, None, Result, Ok, Err}
 use Rattle.no_ir.specs.declared.function.Module.{Module}
 use Rattle.no_ir.specs.declared.function.Role.{Role}
 use Rattle.no_layout.specs.declared.extent.Extent.{Extent}
 use Rattle.no_layout.specs.declared.layout.Layout.{Layout}
 use Rattle.no_semantics.specs.Accepted.{Accepted}
-use Rattle.no_semantics.specs.Sound.{is_sound}
 use Rattle.no_app.specs.Beyond.{first_beyond}
 use Rattle.no_app.specs.Programs.{Loads, judged, left_out, run_by_machine}
 use Rattle.no_app.specs.declared.loading.Refused.{Refused}
@@ -20,24 +19,14 @@ pub beyond_told : (a : Accepted) (word : List ℕ) (r : Result Accepted Refused)
 beyond_told a word r some loads = subst (Loaded r) (sym (ap (λ (first : Option (List ℕ)). judged first a) some)) loads
 
 -- none is
-pub rest_judged : (a s : Accepted) (r : Result Accepted Refused) → first_beyond a.«module» a.layout a.sizes ≡ None → s ≡ a
-    → Loads r (λ found. found ≡ judged None s) → Loads r (λ found. found ≡ run_by_machine a)
-rest_judged a s r none same loads = subst (Loaded r) (ap (judged None) same ∙ sym (ap (λ (first : Option (List ℕ)). judged first a) none)) loads
-
-pub unsound_told : (a : Accepted) (r : Result Accepted Refused) → first_beyond a.«module» a.layout a.sizes ≡ None → is_sound a.«module» a.layout a.sizes ≡ false
-    → Loads r (λ found. found ≡ Err (left_out [])) → Loads r (λ found. found ≡ run_by_machine a)
-unsound_told a r none unsound loads =
-    let refused : judged None a ≡ Err (left_out []) = rw unsound refl in
-    rest_judged a a r none refl (subst (Loaded r) (sym refused) loads)
+pub none_beyond : (a s : Accepted) → first_beyond a.«module» a.layout a.sizes ≡ None → s ≡ a → Loads (Ok s) (λ found. found ≡ run_by_machine a)
+none_beyond a s none same = ap Ok same ∙ sym (ap (λ (first : Option (List ℕ)). judged first a) none)
 
 -- the parts of an accepted module
-pub parts_run : (a : Accepted) (m : Module) (l : Layout) (sizes : List Extent) (role : Role) (r : Result Accepted Refused)
-    → m ≡ a.«module» → l ≡ a.layout → sizes ≡ a.sizes → role ≡ a.role
-    → Loads r (λ found. found ≡ run_by_machine (record { «module» = m; layout = l; sizes = sizes; role = role })) → Loads r (λ found. found ≡ run_by_machine a)
-parts_run a m l sizes role r p q s t loads =
-    let whole : record { «module» = m; layout = l; sizes = sizes; role = role } ≡ a =
+pub parts_are : (a : Accepted) (m : Module) (l : Layout) (sizes : List Extent) (role : Role) → m ≡ a.«module» → l ≡ a.layout → sizes ≡ a.sizes → role ≡ a.role
+    → record { «module» = m; layout = l; sizes = sizes; role = role } ≡ a
+parts_are a m l sizes role p q s t =
     ap (λ (x : Module). let z : Accepted = record { «module» = x; layout = l; sizes = sizes; role = role } in z) p
     ∙ ap (λ (x : Layout). let z : Accepted = record { «module» = a.«module»; layout = x; sizes = sizes; role = role } in z) q
     ∙ ap (λ (x : List Extent). let z : Accepted = record { «module» = a.«module»; layout = a.layout; sizes = x; role = role } in z) s
-    ∙ ap (λ (x : Role). let z : Accepted = record { «module» = a.«module»; layout = a.layout; sizes = a.sizes; role = x } in z) t in
-    subst (Loaded r) (ap run_by_machine whole) loads
+    ∙ ap (λ (x : Role). let z : Accepted = record { «module» = a.«module»; layout = a.layout; sizes = a.sizes; role = x } in z) t

@@ -1,5 +1,5 @@
 -- The program that a text means, or what is wrong with the text (docs/LANGUAGE.md).
-use Rattle.std.specs.Prelude.{◌≡◌, ℕ, Bool, ◌&&◌, List, [], Option, Some, None, Result, Ok, Err, if◌then◌else◌}
+use Rattle.std.specs.Prelude.{◌≡◌, ℕ, List, Option, Some, None, Result, Ok, Err}
 use Rattle.no_ir.specs.declared.function.Module.{Module}
 use Rattle.no_ir.specs.declared.function.Role.TheVariants.{Source}
 use Rattle.no_lex.specs.declared.fault.LexError.{LexError}
@@ -13,8 +13,6 @@ use Rattle.no_read.specs.declared.fault.ReadFault.{ReadFault}
 use Rattle.no_read.specs.declared.fault.ReadFault.TheVariants as reads
 use Rattle.no_read.specs.Reading.{Reads}
 use Rattle.no_semantics.specs.Accepted.{Accepted}
-use Rattle.no_semantics.specs.Sound.{is_sound}
-use Rattle.no_image.specs.Fits.{has_image}
 use Rattle.no_verify.specs.Verdict.{IsVerdict}
 use Rattle.no_verify.specs.declared.fault.VerifyError.{VerifyError}
 use Rattle.no_verify.specs.declared.fault.VerifyError.TheVariants as verifying
@@ -24,21 +22,17 @@ use Rattle.no_app.specs.declared.loading.Refused.TheVariants as refused
 use Rattle.no_app.specs.declared.outcome.ModuleFault.{ModuleFault}
 use Rattle.no_app.specs.declared.outcome.ModuleFault.TheVariants as modules
 
--- what the machine doesn't do, by the word of an instruction where one is the cause
+-- what the machine doesn't do, by the word of an instruction
 abbrev pub left_out : List ℕ → ModuleFault
 left_out word = modules.Read (reads.LeftOut 0 word)
 
 -- ---- a module
 
--- a machine runs each instruction, and an image can be made
-abbrev pub can_run : Accepted → Bool
-can_run a = is_sound a.«module» a.layout a.sizes && has_image a.«module» a.layout a.sizes
-
+-- an accepted module, or the word of its first instruction that the machine of today doesn't do
 abbrev pub judged : Option (List ℕ) → Accepted → Result Accepted ModuleFault
 judged (Some word) a = Err (left_out word)
-judged None a = if can_run a then Ok a else Err (left_out [])
+judged None a = Ok a
 
--- an accepted module, where the machine of today runs it: its instructions first, then the rest
 abbrev pub run_by_machine : Accepted → Result Accepted ModuleFault
 run_by_machine a = judged (first_beyond a.«module» a.layout a.sizes) a
 

@@ -1,21 +1,20 @@
-ghost use Rattle.std.specs.Prelude.{◌≡◌, ◌<◌, ◌^◌, length, IfOk, IsTrue, true, Result, Ok, Err, None};
+ghost use Rattle.std.specs.Prelude.{◌≡◌, ◌<◌, ◌^◌, length, IfOk, true, Result, Ok, Err};
 ghost use Rattle.no_semantics.specs.Accepted.{Accepted};
 ghost use Rattle.no_app.specs.declared.outcome.ModuleFault.{ModuleFault};
 ghost use Rattle.no_image.specs.Fits.{has_image};
 ghost use Rattle.no_ir.specs.declared.function.Role.TheVariants.{Source};
-ghost use Rattle.no_layout.specs.Text.{is_formed};
+ghost use Rattle.no_verify.specs.Verdict.{IsAccepted};
 ghost use Rattle.no_module.specs.Formed.{IsFormed};
 ghost use Rattle.no_module.specs.Marks.{MarksAllowed};
-ghost use Rattle.no_app.specs.Programs.{Loads, Means, MeansModule, MeansTokens, judged, left_out, run_by_machine, unaccepted, unlexed, unread};
+ghost use Rattle.no_app.specs.Programs.{Loads, Means, MeansModule, MeansTokens, left_out, run_by_machine, unaccepted, unlexed, unread};
 
 use crate::beyond::first_beyond;
 use crate::outcome::ModuleFault;
-use no_image::fits;
 use no_ir::{List, Module, NoMemory, Role};
-use no_layout::{Layout, Sizes};
 use no_lex::{LexError, Token, tokens};
 use no_read::{ReadError, ReadFault, read_module};
-use no_semantics::{Sound, check};
+use no_runnable::accepted_programs_can_run;
+use no_semantics::Sound;
 use no_verify::{Sound as Verified, VerifyError, verify};
 use std::alloc::Global;
 
@@ -50,51 +49,19 @@ fn beyond(alloc: Global, word: &[u8]) -> Refused
     }
 }
 
-/// An accepted module, where the machine of today runs it.
-#[tactic(auto, using(crate::proofs::Programs::parts_run))]
+/// An accepted source, where the machine of today does each of its instructions.
+#[tactic(auto, using(crate::proofs::Programs::beyond_told, crate::proofs::Programs::none_beyond, crate::proofs::Programs::parts_are))]
 fn runnable(alloc: Global, accepted: Verified) -> Result<Sound, Refused>
+    requires { IsAccepted accepted.«module» Source accepted }
     ensures loads { Loads result (λ found. found ≡ run_by_machine accepted) }
+    ensures same { IfOk result (λ s. s ≡ accepted) }
     ensures fits { IfOk result (λ s. has_image s.«module» s.layout s.sizes ≡ true) }
-    ensures role { IfOk result (λ s. s.role ≡ accepted.role) }
 {
+    accepted_programs_can_run();
     let (program, layout, sizes, role) = accepted.into_parts();
-    with_parts(alloc, program, layout, sizes, role)
-}
-
-/// A module under its layout, with the sizes of its named types, where a machine runs it: its instructions first, and then
-/// the rest.
-#[tactic(auto, using(crate::proofs::Programs::beyond_told, crate::proofs::Programs::unsound_told, crate::proofs::Programs::rest_judged))]
-fn with_parts(
-    alloc: Global,
-    program: Module,
-    layout: Layout,
-    sizes: Sizes,
-    role: Role,
-) -> Result<Sound, Refused>
-    requires { IsTrue (is_formed layout) }
-    ensures loads { Loads result (λ found. found ≡ run_by_machine (record { «module» = program; layout = layout; sizes = sizes; role = role })) }
-    ensures fits { IfOk result (λ s. has_image s.«module» s.layout s.sizes ≡ true) }
-    ensures role { IfOk result (λ s. s.role ≡ role) }
-{
-    if let Some(word) = first_beyond(&program, &layout, &sizes) {
-        return Err(beyond(alloc, word));
-    }
-    if !check(&program, &layout, &sizes) {
-        return Err(beyond(alloc, b""));
-    }
-    with_image(alloc, Sound::of(program, layout, sizes, role))
-}
-
-/// A module of which a machine runs each instruction, where its image can be made.
-fn with_image(alloc: Global, sound: Sound) -> Result<Sound, Refused>
-    ensures loads { Loads result (λ found. found ≡ judged None sound) }
-    ensures same { IfOk result (λ s. s ≡ sound) }
-    ensures fits { IfOk result (λ s. has_image s.«module» s.layout s.sizes ≡ true) }
-{
-    if fits(&sound) {
-        Ok(sound)
-    } else {
-        Err(beyond(alloc, b""))
+    match first_beyond(&program, &layout, &sizes) {
+        Some(word) => Err(beyond(alloc, word)),
+        None => Ok(Sound::of(program, layout, sizes, role)),
     }
 }
 
@@ -115,6 +82,7 @@ fn accepted(alloc: Global, program: Module) -> Result<Sound, Refused>
     requires marks { MarksAllowed Source program }
     ensures loads { Loads result (MeansModule program) }
     ensures only { (answer : Result Accepted ModuleFault) → MeansModule program answer → Loads result (λ found. found ≡ answer) }
+    ensures accepted { IfOk result (λ s. IsAccepted s.«module» Source s) }
     ensures fits { IfOk result (λ s. has_image s.«module» s.layout s.sizes ≡ true) }
     ensures role { IfOk result (λ s. s.role ≡ Source) }
 {
@@ -148,6 +116,7 @@ fn read(alloc: Global, text: &[u8], tokens: &[Token]) -> Result<Sound, Refused>
     requires { length text.now < 2 ^ 32 }
     ensures loads { Loads result (MeansTokens text.now (Ok tokens.now)) }
     ensures only { (answer : Result Accepted ModuleFault) → MeansTokens text.now (Ok tokens.now) answer → Loads result (λ found. found ≡ answer) }
+    ensures accepted { IfOk result (λ s. IsAccepted s.«module» Source s) }
     ensures fits { IfOk result (λ s. has_image s.«module» s.layout s.sizes ≡ true) }
     ensures role { IfOk result (λ s. s.role ≡ Source) }
 {
@@ -163,6 +132,7 @@ pub(crate) fn load(alloc: Global, text: &[u8]) -> Result<Sound, Refused>
     // What is loaded is what the text means, and it means one thing at most.
     ensures loads { Loads result (Means text.now) }
     ensures only { (answer : Result Accepted ModuleFault) → Means text.now answer → Loads result (λ found. found ≡ answer) }
+    ensures accepted { IfOk result (λ s. IsAccepted s.«module» Source s) }
     ensures fits { IfOk result (λ s. has_image s.«module» s.layout s.sizes ≡ true) }
     ensures role { IfOk result (λ s. s.role ≡ Source) }
 {

@@ -1,5 +1,5 @@
 -- Globals stand apart from each other, each in its region.
-use Rattle.std.proofs.Common.{◌≡◌, ℕ, zero, suc, ◌+◌, ◌-◌, ◌%◌, ◌<◌, ◌≤◌, ◌⊎◌, inl, inr, Bool, true, false, ◌&&◌, nat_le, IsTrue, List, [], ◌∷◌, ◌++◌, take, drop, length, get_or, replicate, refl, sym, ap, subst, ◌∙◌, arith, append_assoc, append-nil, rules}
+use Rattle.std.proofs.Common.{◌≡◌, ℕ, zero, suc, ◌+◌, ◌-◌, ◌<◌, ◌≤◌, ◌⊎◌, inl, inr, Bool, true, false, IsTrue, List, [], ◌∷◌, ◌++◌, take, drop, length, get_or, replicate, refl, sym, ap, subst, ◌∙◌, arith, append_assoc, append-nil, rules}
 use mathlib.Core.Path.{fun_ext}
 use Rattle.std.specs.List.{list_all}
 use Rattle.std.proofs.lemmas.Bool.{and_from, and_parts, cases_Bool, cases_lt, le-leb, lt-leb, le-ltb, lt-ltb}
@@ -11,7 +11,7 @@ use Rattle.no_ir.specs.declared.constant.Const.TheVariants as const
 use Rattle.no_ir.specs.declared.types.Ty.{Ty}
 use Rattle.no_ir.specs.declared.function.GlobalVar.{GlobalVar}
 use Rattle.no_ir.specs.declared.function.Module.{Module}
-use Rattle.no_layout.specs.Memory.{AreFormed, constants_start, globals_limit, globals_start, in_constants, within, written}
+use Rattle.no_layout.specs.Memory.{AreFormed, constants_start, globals_start, in_constants, within, written}
 use Rattle.no_layout.specs.Sizes.{type_size}
 use Rattle.no_layout.specs.Text.{is_formed}
 use Rattle.no_layout.specs.declared.extent.Extent.{Extent}
@@ -19,8 +19,8 @@ use Rattle.no_layout.specs.declared.layout.Layout.{Layout}
 use Rattle.no_layout.specs.declared.memory.Regions.{Regions}
 use Rattle.no_semantics.specs.Accepted.{Accepted}
 use Rattle.no_semantics.specs.First.{constant_bytes, first_of, program_of}
-use Rattle.no_semantics.specs.Image.{address_behind, addresses_behind, constants_end_of, end_of, end_with, global_align, globals_start_of, place_behind, regions_of, same_kind, start_of}
-use Rattle.no_semantics.specs.Sound.{align_fits, table_holds, type_fits}
+use Rattle.no_semantics.specs.Image.{address_behind, addresses_behind, constants_end_of, end_of, end_with, globals_start_of, regions_of, start_of}
+use Rattle.no_semantics.specs.Sound.{table_holds, type_fits}
 use Rattle.no_image.specs.Fits.{global_fits, globals_fit, has_image, image_fits, init_fits, inits_fit}
 use Rattle.no_image.specs.Pieces.{AreInside, IsInRegion, over}
 use Rattle.no_image.proofs.Lengths.{constant_length}

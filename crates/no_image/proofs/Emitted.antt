@@ -1,6 +1,6 @@
 -- Bytes of constants, one element or field more at a time.
-use Rattle.std.proofs.Common.{◌≡◌, ℕ, zero, suc, ◌+◌, ◌-◌, ◌<◌, ◌≤◌, ◌⊎◌, inl, inr, Bool, true, false, ◌&&◌, ◌==◌, List, [], ◌∷◌, ◌++◌, map, take, drop, length, get_or, replicate, slice_get, Option, Some, None, refl, sym, ap, subst, ◌∙◌, arith, append_assoc, length-append}
-use Rattle.std.specs.List.{fold, list_all}
+use Rattle.std.proofs.Common.{◌≡◌, ℕ, zero, suc, ◌+◌, ◌-◌, ◌<◌, ◌≤◌, inl, inr, Bool, true, List, [], ◌∷◌, ◌++◌, map, take, drop, length, get_or, replicate, slice_get, Some, refl, sym, ap, subst, ◌∙◌, arith, append_assoc, length-append}
+use Rattle.std.specs.List.{list_all}
 use Rattle.std.specs.Option.{option_map}
 use Rattle.std.proofs.lemmas.Bool.{and_parts, cases_lt}
 use Rattle.std.proofs.lemmas.List.{at_drop_more, drop_all, map-append}
@@ -9,17 +9,16 @@ use Rattle.std.proofs.lemmas.Option.{slice_get-map, slice_get_read}
 use Rattle.std.proofs.Math.Seq.{drop-cons, take-add}
 use Rattle.no_ir.specs.declared.types.Ty.{Ty, out-Ty}
 use Rattle.no_ir.specs.declared.types.Ty.TheOpen.{Ty-F}
-use Rattle.no_ir.specs.declared.types.Ty.TheFolds.{map-Ty}
 use Rattle.no_ir.specs.declared.constant.Const.{Const}
 use Rattle.no_ir.specs.declared.constant.Const.TheOpen.{Const-F}
 use Rattle.no_ir.specs.declared.constant.Const.TheFolds.{fold-roll-Const}
 use Rattle.no_ir.specs.declared.constant.Const.TheVariants.{Array, Struct, rolls-Array, rolls-Struct}
 use Rattle.no_ir.specs.declared.function.Module.{Module}
-use Rattle.no_layout.specs.Sizes.{Measure, fields_of, measure_of, measure_step, no_fields, offset_in, offset_of, offset_step, place_after, size_limit, type_size, type_align, whole, with_field}
+use Rattle.no_layout.specs.Sizes.{Measure, fields_of, measure_of, no_fields, offset_in, offset_of, offset_step, place_after, size_limit, type_size, type_align, whole, with_field}
 use Rattle.no_layout.specs.declared.extent.Extent.{Extent}
 use Rattle.no_layout.specs.declared.layout.Layout.{Layout}
 use Rattle.no_layout.proofs.Fields.{before_fits}
-use Rattle.no_semantics.specs.First.{constant_bytes, element_step, elements_bytes, field_or, field_step, fields_bytes, padded}
+use Rattle.no_semantics.specs.First.{constant_bytes, elements_bytes, field_or, field_step, fields_bytes, padded}
 use Rattle.no_semantics.specs.Indices.{resolved}
 use Rattle.no_semantics.specs.Sound.{type_fits}
 use Rattle.no_semantics.specs.Values.{Program}

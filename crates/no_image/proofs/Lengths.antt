@@ -1,7 +1,6 @@
 -- A constant has as many bytes as its type.
-use Rattle.std.proofs.Common.{◌≡◌, ℕ, zero, suc, ◌+◌, ◌-◌, ◌*◌, ◌/◌, ◌%◌, ◌^◌, ◌<◌, ◌≤◌, ◌⊎◌, inl, inr, Bool, true, false, ◌&&◌, ◌||◌, ◌==◌, IsTrue, List, [], ◌∷◌, ◌++◌, map, take, drop, length, get_or, replicate, refl, sym, ap, subst, ◌∙◌, arith, length-append, append-nil}
+use Rattle.std.proofs.Common.{◌≡◌, ℕ, zero, suc, ◌+◌, ◌-◌, ◌*◌, ◌/◌, ◌%◌, ◌^◌, ◌<◌, ◌≤◌, inl, inr, Bool, true, false, ◌||◌, ◌==◌, IsTrue, List, [], ◌∷◌, ◌++◌, map, take, drop, length, get_or, replicate, refl, sym, ap, subst, ◌∙◌, arith, length-append, append-nil}
 use Rattle.std.specs.List.{list_all}
-use Rattle.std.specs.Int.{next_multiple_of}
 use Rattle.std.proofs.lemmas.Bool.{and_parts, or_cases, eqb-true}
 use Rattle.std.proofs.lemmas.List.{length-replicate, take-append-drop}
 use Rattle.no_ir.specs.declared.types.Ty.{Ty, out-Ty}
@@ -18,8 +17,8 @@ use Rattle.no_semantics.specs.First.{bytes_step, constant_bytes, element_step, e
 use Rattle.no_semantics.specs.Indices.{resolved}
 use Rattle.no_semantics.specs.Sound.{is_width, table_holds, type_fits}
 use Rattle.no_semantics.specs.Values.{bytes_of_width, width_of, width_step}
-use Rattle.no_semantics.proofs.Parts.{element_fits, resolved_fits, resolved_size, rolled}
-use Rattle.no_semantics.proofs.Scalars.{Known, known}
+use Rattle.no_semantics.proofs.Parts.{resolved_fits, resolved_size, rolled}
+use Rattle.no_semantics.proofs.Scalars.{known}
 use Rattle.no_image.specs.Fits.{byte_step, each_fits, elements_fit, fields_fit, init_fits, init_step, int_step, is_byte, is_int, is_pointer, pointer_step, text_fits}
 use Rattle.no_image.proofs.Emitted.{end_more, field_fits, place_is, type_is}
 

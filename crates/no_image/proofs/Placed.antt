@@ -1,7 +1,7 @@
 -- The ends of globals do not fall as more of them are placed.
 use Rattle.std.proofs.Common.{◌≡◌, ℕ, suc, ◌+◌, ◌-◌, ◌%◌, ◌<◌, ◌≤◌, inl, inr, Bool, true, false, nat_le, List, [], ◌∷◌, ◌++◌, take, drop, get_or, length, refl, sym, ap, ◌∙◌, arith, append_assoc, if◌then◌else◌}
 use Rattle.std.specs.List.{list_all}
-use Rattle.std.proofs.lemmas.Bool.{cases_Bool, lt-leb, leb-true}
+use Rattle.std.proofs.lemmas.Bool.{and_from, cases_Bool, leb-true}
 use Rattle.std.proofs.Math.Seq.{drop-cons, take-add}
 use Rattle.std.proofs.lemmas.List.{take-append-drop}
 use Rattle.std.proofs.lemmas.List.Folds.{list_all_at}
@@ -12,7 +12,9 @@ use Rattle.no_layout.specs.declared.layout.Layout.{Layout}
 use Rattle.no_layout.specs.Memory.{globals_limit, constants_start}
 use Rattle.no_layout.specs.Sizes.{type_size}
 use Rattle.no_semantics.proofs.Facts.{both}
-use Rattle.no_image.specs.Fits.{globals_fit, image_fits}
+use Rattle.no_room.specs.Fits.{have_types}
+use Rattle.no_semantics.specs.Sound.{align_fits, type_fits}
+use Rattle.no_image.specs.Fits.{global_fits, globals_fit, image_fits}
 use Rattle.no_semantics.specs.Image.{addresses_of, addresses_behind, address_behind, start_of, end_of, end_with, global_align, place_behind, same_kind, constants_end_of, globals_start_of, regions_of}
 
 above : (x y : ℕ) → x ≤ x + y
@@ -59,15 +61,6 @@ fits_at p gs k g all lt is = elim (cases_Bool (p g)) [
   | inr fails ↦ (let some : list_all p gs ≡ false = list_all_at p gs k g lt (ap p (sym is) ∙ fails) in absurd cc)
 ]
 
--- where one of the ends is past the limit, so is the last
-pub passed : (l : Layout) (sizes : List Extent) (kind : Bool) (start : ℕ) (gs : List GlobalVar) (k : ℕ) (g : GlobalVar) (before end : ℕ)
-    → k < length gs → g ≡ get_or gs k g → before ≡ end_of l sizes kind start (take k gs) → end ≡ end_with l sizes kind before g → globals_limit < end
-    → globals_limit < end_of l sizes kind start gs
-passed l sizes kind start gs k g before end lt is was now over =
-    let next : end ≡ end_of l sizes kind start (take (k + 1) gs) = now ∙ ap (λ (e : ℕ). end_with l sizes kind e g) was ∙ sym (next_end l sizes kind start gs k g lt (sym is)) in
-    let low : end_of l sizes kind start (take (k + 1) gs) ≤ end_of l sizes kind start gs = first_below l sizes kind start gs (k + 1) in
-    omega (arith, next, low, over)
-
 pub went_on : (l : Layout) (sizes : List Extent) (kind : Bool) (start : ℕ) (gs : List GlobalVar) (k : ℕ) (g : GlobalVar) (before end : ℕ)
     → k < length gs → g ≡ get_or gs k g → before ≡ end_of l sizes kind start (take k gs) → end ≡ end_with l sizes kind before g
     → end ≡ end_of l sizes kind start (take (k + 1) gs)
@@ -79,12 +72,6 @@ pub constants_below : (l : Layout) (sizes : List Extent) (gs : List GlobalVar) �
 constants_below l sizes gs =
     let begin : constants_end_of l sizes gs ≤ globals_start_of l sizes gs = above (constants_end_of l sizes gs) ((65536 - constants_end_of l sizes gs % 65536) % 65536) in
     through (constants_end_of l sizes gs) (globals_start_of l sizes gs) (regions_of l sizes gs).globals_end begin (grows l sizes false (globals_start_of l sizes gs) gs)
-
-pub late : (l : Layout) (sizes : List Extent) (gs : List GlobalVar) → globals_limit < constants_end_of l sizes gs → nat_le (regions_of l sizes gs).globals_end globals_limit ≡ false
-late l sizes gs over = lt-leb (regions_of l sizes gs).globals_end globals_limit (longer globals_limit (constants_end_of l sizes gs) (regions_of l sizes gs).globals_end over (constants_below l sizes gs))
-  where
-    longer : (a b c : ℕ) → a < b → b ≤ c → a < c
-    longer a b c h k = omega arith
 
 -- ---- what an image that fits keeps
 
@@ -150,8 +137,14 @@ listed_next l sizes gs k at g all lt is here listed =
     ∙ ap (λ (before : List GlobalVar). all ++ at ∷ addresses_behind l sizes gs before (drop (k + 1) gs)) (sym front)
     ∙ sym (append_assoc all (at ∷ []) (addresses_behind l sizes gs (take (k + 1) gs) (drop (k + 1) gs)))
 
-pub all_fit : (l : Layout) (sizes : List Extent) (gs : List GlobalVar) → image_fits l sizes gs ≡ true → globals_fit l sizes gs ≡ true
-all_fit l sizes gs e = (both (globals_fit l sizes gs) (nat_le (regions_of l sizes gs).globals_end globals_limit) e).0
+pub types_fit : (l : Layout) (sizes : List Extent) (gs : List GlobalVar) → image_fits l sizes gs ≡ true → have_types l sizes gs ≡ true
+types_fit l sizes gs e = each gs (both (globals_fit l sizes gs) (nat_le (regions_of l sizes gs).globals_end globals_limit) e).0
+  where
+    each : (hs : List GlobalVar) → globals_fit l sizes hs ≡ true → have_types l sizes hs ≡ true
+    each [] f = refl
+    each (h ∷ hs) f =
+        let parts = both (global_fits l sizes h) (globals_fit l sizes hs) f in
+        and_from _ _ (both (type_fits l sizes h.ty) (align_fits h.align) parts.0).0 (each hs parts.1)
 
 pub constants_end_low : (l : Layout) (sizes : List Extent) (gs : List GlobalVar) → image_fits l sizes gs ≡ true → constants_end_of l sizes gs ≤ globals_limit
 constants_end_low l sizes gs e = through (constants_end_of l sizes gs) (regions_of l sizes gs).globals_end globals_limit (constants_below l sizes gs) (ends_low l sizes gs e)

@@ -1,5 +1,5 @@
--- Modules of which an image can be made.
-use Rattle.std.specs.Prelude.{◌≡◌, ◌≤◌, ◌<◌, ℕ, Bool, true, false, ◌&&◌, ◌==◌, nat_le, List, [], ◌∷◌, length, Option, Some, None}
+-- Modules of which an image can be made, as those are that the verifier accepts.
+use Rattle.std.specs.Prelude.{ℕ, Bool, true, false, ◌&&◌, ◌==◌, nat_le, List, [], ◌∷◌, length}
 use Rattle.std.specs.List.{list_all}
 use Rattle.no_ir.specs.declared.types.Ty.{Ty, out-Ty}
 use Rattle.no_ir.specs.declared.types.Ty.TheOpen.{Ty-F}
@@ -92,8 +92,3 @@ image_fits l sizes globals = globals_fit l sizes globals && nat_le (regions_of l
 -- an image can be made of a module: its globals fit, and their initialisers are of their types
 abbrev pub has_image : Module → Layout → List Extent → Bool
 has_image m l sizes = image_fits l sizes m.globals && inits_fit m l sizes m.globals
-
--- the end of globals of a kind, where it is at most the limit
-abbrev pub IsEnd : Option ℕ → ℕ → Type 0
-IsEnd None end = globals_limit < end
-IsEnd (Some e) end = (e ≡ end) × (end ≤ globals_limit)

@@ -120,8 +120,7 @@ module _ (l : Layout) (sizes : List Extent) where
     alike_named k named shape is =
         let entry : entry_holds l sizes k named.1 ≡ true = subst (λ (n : ℕ). entry_holds l sizes n named.1 ≡ true) (zero_plus k) (entry_at 0 types k named holds is) in
         let parts = and_parts (type_fits l sizes named.1) _ entry in
-        let more = and_parts (nat_lt k (2 ^ 32)) _ parts.1 in
-        let numbers = and_parts (type_fits l sizes (ty.Named k)) _ more.1 in
+        let numbers = and_parts (type_fits l sizes (ty.Named k)) _ parts.1 in
         let both = and_parts (type_size l sizes (ty.Named k) == type_size l sizes named.1) _ numbers.1 in
         let name : measure_of l sizes t ≡ measure_of l sizes (ty.Named k) = rolled l sizes t (Ty-F.Named k) shape ∙ sym (named_is l sizes k) in (
           parts.0,

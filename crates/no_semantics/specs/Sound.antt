@@ -58,7 +58,7 @@ same_numbers l sizes t u = type_size l sizes t == type_size l sizes u && type_al
 
 -- named type k fits, and the table has its numbers
 abbrev pub entry_holds : Layout → List Extent → ℕ → Ty → Bool
-entry_holds l sizes k t = type_fits l sizes t && (nat_lt k (2 ^ 32) && (type_fits l sizes (ty.Named k) && same_numbers l sizes (ty.Named k) t))
+entry_holds l sizes k t = type_fits l sizes t && (type_fits l sizes (ty.Named k) && same_numbers l sizes (ty.Named k) t)
 
 -- so do these named types, from type k on
 abbrev pub table_holds : Layout → List Extent → ℕ → List (List ℕ × Ty) → Bool

@@ -4,76 +4,11 @@ ghost use Rattle.no_semantics.specs.Values.{width_of};
 ghost use Rattle.std.specs.List.{list_all};
 ghost use Rattle.std.specs.Option.{option_copied};
 ghost use Rattle.no_ir.specs.declared.types.Ty.{out-Ty};
-ghost use Rattle.no_semantics.specs.Sound.{align_fits, arg_fits, args_fit, block_fits, count_fits, entry_holds, field_number, field_of, function_fits, goes_between, index_fits, indices_fit, inner_fit, known_part, operand_number, is_scalar, is_sound, is_width, op_fits, operand_fits, pair_fits, place_fits, same_numbers, symbol_fits, table_holds, type_fits};
+ghost use Rattle.no_semantics.specs.Sound.{align_fits, arg_fits, args_fit, count_fits, field_number, field_of, goes_between, index_fits, indices_fit, inner_fit, known_part, operand_number, is_scalar, is_width, op_fits, operand_fits, pair_fits, place_fits, symbol_fits, type_fits};
 
 use crate::indices::{path_leads, resolved};
-use no_ir::{Block, Bytes, CastOp, Const, Function, Module, Op, Operand, Place, Symbol, Ty};
+use no_ir::{CastOp, Const, Module, Op, Operand, Place, Symbol, Ty};
 use no_layout::{Layout, Sizes};
-
-/// Whether a machine runs each instruction of a module.
-///
-/// The layout is one that `Layout::read` gives, and the sizes are those of the module's types under it.
-#[tactic(auto, unfolding(crate::specs::Sound::is_sound))]
-pub fn check(program: &Module, layout: &Layout, sizes: &Sizes) -> bool
-    requires { IsTrue (is_formed layout.now) }
-    ensures { result ≡ is_sound program.now layout.now sizes.now }
-{
-    checks_types(program.types.as_slice(), layout, sizes)
-        && checks_functions(program, program.functions.as_slice(), layout, sizes)
-}
-
-/// Whether the table has the numbers of each named type.
-fn checks_types(types: &[(Bytes, Ty)], layout: &Layout, sizes: &Sizes) -> bool
-    requires { IsTrue (is_formed layout.now) }
-    ensures { result ≡ table_holds layout.now sizes.now 0 types.now }
-{
-    for (k, named) in types.iter().enumerate() {
-        if !checks_named(layout, sizes, k, &named.1) {
-            return false;
-        }
-    }
-    true
-}
-
-/// Whether named type k fits, and the table has its numbers.
-fn checks_named(layout: &Layout, sizes: &Sizes, k: usize, t: &Ty) -> bool
-    requires { IsTrue (is_formed layout.now) }
-    ensures { result ≡ entry_holds layout.now sizes.now k t.now }
-{
-    checks_type(layout, sizes, t)
-        && match u32::try_from(k) {
-            Ok(number) => has_numbers(layout, sizes, &Ty::Named(number), t),
-            Err(_) => false,
-        }
-}
-
-/// Whether a type fits, and has the numbers of another that does.
-fn has_numbers(layout: &Layout, sizes: &Sizes, name: &Ty, t: &Ty) -> bool
-    requires formed { IsTrue (is_formed layout.now) }
-    requires fits { type_fits layout.now sizes.now t.now ≡ true }
-    ensures { result ≡ type_fits layout.now sizes.now name.now && same_numbers layout.now sizes.now name.now t.now }
-{
-    checks_type(layout, sizes, name)
-        && (layout.size(sizes, name) == layout.size(sizes, t)
-            && layout.align(sizes, name) == layout.align(sizes, t))
-}
-
-fn checks_functions(
-    program: &Module,
-    functions: &[Function],
-    layout: &Layout,
-    sizes: &Sizes,
-) -> bool
-    requires { IsTrue (is_formed layout.now) }
-    ensures { result ≡ list_all (function_fits program.now layout.now sizes.now) functions.now }
-{
-    for function in functions {
-        if !checks_function(program, function, layout, sizes) {
-            return false;
-        }
-    }
-    true
-}
 
 /// Whether the module has a symbol.
 fn has_symbol(program: &Module, symbol: &Symbol) -> bool
@@ -100,30 +35,6 @@ pub fn has_place(program: &Module, layout: &Layout, sizes: &Sizes, place: &Place
                 &place.base,
                 place.indices.as_slice(),
             ))
-}
-
-fn checks_function(program: &Module, function: &Function, layout: &Layout, sizes: &Sizes) -> bool
-    requires { IsTrue (is_formed layout.now) }
-    ensures { result ≡ function_fits program.now layout.now sizes.now function.now }
-{
-    for block in function.blocks.as_slice() {
-        if !checks_block(program, block, layout, sizes) {
-            return false;
-        }
-    }
-    true
-}
-
-fn checks_block(program: &Module, block: &Block, layout: &Layout, sizes: &Sizes) -> bool
-    requires { IsTrue (is_formed layout.now) }
-    ensures { result ≡ block_fits program.now layout.now sizes.now block.now }
-{
-    for instr in block.instrs.as_slice() {
-        if !check_op(program, &instr.op, layout, sizes) {
-            return false;
-        }
-    }
-    true
 }
 
 /// Whether a machine runs an instruction of a module.

@@ -9,7 +9,7 @@ mod laws;
 mod sound;
 mod widths;
 
-pub use accept::{check, check_op, has_place, width};
+pub use accept::{check_op, has_place, width};
 pub use frame::Frame;
 pub use image::Image;
 pub use indices::{index_offset, part, place_address, resolved, symbol_address, with_first};

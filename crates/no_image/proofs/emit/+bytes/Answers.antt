@@ -1,6 +1,6 @@
-use Rattle.std.proofs.Common.{◌≡◌, ◌+◌, ◌-◌, ◌≤◌, ◌<◌, ◌++◌, replicate, ℕ, List, Bool, refl, rules, sym, ap, ◌∙◌, arith, length, length-append}
+use Rattle.std.proofs.Common.{◌≡◌, ◌+◌, ◌-◌, ◌<◌, ◌++◌, replicate, ℕ, List, refl, rules, sym, ap, ◌∙◌, arith, length, length-append}
 use Rattle.no_ir.specs.declared.constant.Const.{the_lemmas, Const}
-use Rattle.no_ir.specs.declared.types.Ty.{Ty, out-Ty}
+use Rattle.no_ir.specs.declared.types.Ty.{out-Ty}
 use Rattle.no_semantics.specs.First.{constant_bytes, program_of}
 use Rattle.no_layout.specs.Sizes.{type_size, type_stride}
 use Rattle.no_image.specs.Fits.{elements_fit, fields_fit, init_fits}

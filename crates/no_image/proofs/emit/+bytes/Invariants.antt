@@ -1,9 +1,7 @@
-use Rattle.std.proofs.Common.{◌≡◌, ◌++◌, ◌∷◌, [], ℕ, List, Bool, true, take, drop, map}
-use Rattle.std.specs.List.{list_all}
+use Rattle.std.proofs.Common.{◌≡◌, ◌++◌, [], ℕ, List, take, drop, map}
 use Rattle.no_ir.specs.declared.types.Ty.{Ty}
 use Rattle.no_layout.specs.Sizes.{fields_of, measure_of, type_stride}
 use Rattle.no_semantics.specs.First.{constant_bytes, elements_bytes, fields_bytes, program_of}
-use Rattle.no_image.specs.Fits.{each_fits, init_fits}
 use Rattle.no_image.proofs.emit.+bytes.Given as goal
 
 abbrev pub invariant-emit_elements-loop-element : goal.invariant-emit_elements-loop-element

@@ -1,4 +1,4 @@
-use Rattle.std.proofs.Common.{◌≡◌, ◌-◌, ◌*◌, ◌/◌, ◌<◌, ◌≤◌, ◌∙◌, ℕ, Bool, false, true, length, refl, ap, arith}
+use Rattle.std.proofs.Common.{◌≡◌, ◌-◌, ◌<◌, ◌∙◌, ℕ, Bool, false, true, length, refl, ap, arith}
 use Rattle.no_layout.specs.Memory.{access, page_count, page_of}
 use Rattle.no_layout.specs.declared.memory.Access.TheVariants.{Done}
 use Rattle.no_layout.proofs.Accesses.{done_within, full_none}

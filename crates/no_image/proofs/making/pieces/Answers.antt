@@ -1,9 +1,6 @@
-use Rattle.std.proofs.Common.{◌≡◌, ◌<◌, ℕ, List, length, subst, sym, ap, ◌∙◌, arith, true, refl, [], rules, replicate, get_or}
-use Rattle.no_ir.specs.declared.constant.Const.{the_lemmas}
+use Rattle.std.proofs.Common.{◌≡◌, ◌<◌, List, length, subst, ap, ◌∙◌, arith, true, refl, [], get_or}
 use Rattle.no_ir.specs.declared.function.Module.{Module}
 use Rattle.no_ir.specs.declared.function.GlobalVar.{GlobalVar}
-use Rattle.no_layout.specs.Sizes.{type_size}
-use Rattle.no_semantics.specs.First.{constant_bytes, program_of}
 use Rattle.no_semantics.specs.Sound.{is_sound}
 use Rattle.no_semantics.proofs.Facts.{layout_formed, table_is}
 use Rattle.no_image.proofs.Apart.{address_at, as_many_addresses, global_init, global_typed, piece_inside, piece_more, piece_none, inside_more, zero_bytes}

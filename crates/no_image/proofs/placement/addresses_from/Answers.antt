@@ -5,12 +5,16 @@ use Rattle.no_layout.specs.declared.extent.Extent.{Extent}
 use Rattle.no_layout.specs.declared.layout.Layout.{Layout}
 use Rattle.no_semantics.proofs.Facts.{both}
 use Rattle.no_semantics.specs.Image.{end_of, globals_start_of, start_of, place_behind, address_behind, regions_of}
+use Rattle.no_semantics.specs.Sound.{align_fits, type_fits}
 use Rattle.no_image.specs.Fits.{global_fits, globals_fit, image_fits}
 use Rattle.no_image.proofs.Placed.{fits_at, constants_low, writable_low, kind_end, kind_low, place_low, went_on, listed_next}
 use Rattle.no_image.proofs.placement.addresses_from.Goals as goal
 
 each_fits : (l : Layout) (sizes : List Extent) (gs : List GlobalVar) (k : ℕ) (g : GlobalVar) → image_fits l sizes gs ≡ true → k < length gs → g ≡ get_or gs k g → global_fits l sizes g ≡ true
 each_fits l sizes gs k g e lt is = fits_at (global_fits l sizes) gs k g (both (globals_fit l sizes gs) (nat_le (regions_of l sizes gs).globals_end globals_limit) e).0 lt is
+
+type_at : (l : Layout) (sizes : List Extent) (gs : List GlobalVar) (k : ℕ) (g : GlobalVar) → image_fits l sizes gs ≡ true → k < length gs → g ≡ get_or gs k g → type_fits l sizes g.ty ≡ true
+type_at l sizes gs k g e lt is = (both (type_fits l sizes g.ty) (align_fits g.align) (each_fits l sizes gs k g e lt is)).0
 
 at_start : (l : Layout) (sizes : List Extent) (gs before : List GlobalVar) (start w : ℕ) → start ≡ globals_start_of l sizes gs → w ≡ end_of l sizes false start before → w ≡ end_of l sizes false (globals_start_of l sizes gs) before
 at_start l sizes gs before start w is e = e ∙ ap (λ (s : ℕ). end_of l sizes false s before) is
@@ -50,7 +54,7 @@ overflow_cast-at c =
     omega (arith, low)
 
 pub end_behind-constants-requires-clause-fits : goal.end_behind-constants-requires-clause-fits
-end_behind-constants-requires-clause-fits c = each_fits c.args.layout.now c.args.sizes.now c.args.globals.now c.loop-global.global-index c.global-item.result c.requires.fits c.loop-global-test.true c.global-item.is
+end_behind-constants-requires-clause-fits c = type_at c.args.layout.now c.args.sizes.now c.args.globals.now c.loop-global.global-index c.global-item.result c.requires.fits c.loop-global-test.true c.global-item.is
 
 pub end_behind-constants-requires-clause-low : goal.end_behind-constants-requires-clause-low
 end_behind-constants-requires-clause-low c =
@@ -58,7 +62,7 @@ end_behind-constants-requires-clause-low c =
     (constants_low c.args.layout.now c.args.sizes.now c.args.globals.now c.loop-global.global-index c.requires.fits)
 
 pub end_behind-writable-requires-clause-fits : goal.end_behind-writable-requires-clause-fits
-end_behind-writable-requires-clause-fits c = each_fits c.args.layout.now c.args.sizes.now c.args.globals.now c.loop-global.global-index c.global-item.result c.requires.fits c.loop-global-test.true c.global-item.is
+end_behind-writable-requires-clause-fits c = type_at c.args.layout.now c.args.sizes.now c.args.globals.now c.loop-global.global-index c.global-item.result c.requires.fits c.loop-global-test.true c.global-item.is
 
 pub end_behind-writable-requires-clause-low : goal.end_behind-writable-requires-clause-low
 end_behind-writable-requires-clause-low c =

@@ -1,0 +1,7 @@
+mod Images
+mod Layouts
+mod Lists
+mod Modules
+mod Ops
+mod Places
+mod Tables
