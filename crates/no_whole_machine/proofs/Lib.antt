@@ -14,3 +14,5 @@ pub mod Going
 pub mod Flags
 pub mod Booting
 pub mod Slices
+pub mod Inside
+pub mod Reaching

@@ -1,5 +1,5 @@
 ghost use Rattle.std.specs.Prelude.{◌≡◌, ◌+◌, ◌-◌, ◌≤◌, ℕ, List, [], ◌++◌, None, length, true};
-ghost use Rattle.no_layout.specs.Memory.{Agrees};
+ghost use Rattle.no_layout.specs.Memory.{Agrees, IsPage};
 ghost use Rattle.no_semantics.specs.States.{instr_at};
 ghost use Rattle.no_whole_machine.specs.Acted.{MayLackMemory};
 ghost use Rattle.no_whole_machine.specs.Called.{HasNoMarks};
@@ -21,7 +21,8 @@ use std::sync::ledger::Ledger;
 #[derive(Clone, Copy, Debug, PartialEq, Eq)]
 pub enum StepAnswer {
     Stepped,
-    /// This page is absent, and it is the lowest of those that the instruction needs. Nothing changed: supply it, and
+    /// This page is absent, and it is the lowest of those that the instruction needs. It has a byte in a region. Nothing
+    /// changed: supply it, and
     /// take the step again.
     WantPage(u32),
     /// The instruction takes a byte of the input, and none is there. Nothing changed: give some, or end the input.
@@ -105,12 +106,14 @@ impl<M: Memory> Machine<M> {
         ensures later { count_of self.old ≤ count_of self.new }
         ensures made { IsFor sound.now self.new }
         ensures enough { result ≡ StepAnswer.NoMemory → MayLackMemory (instr_at (program_of M.regions sound.now self.old) (frame_of self.old.core.frame)) }
+        ensures inside { (page : ℕ) → result ≡ StepAnswer.WantPage page → IsPage (M.regions (memory_of self.new)) page }
         // The counter rises by what was counted.
         ensures counts { steps.new ≡ counted sound.now.role (count_of self.new - count_of self.old) steps.old }
     {
         if let Some(end) = self.end {
             return StepAnswer::Ended(end);
         }
+        let _blocks = self.core.heap.blocks();
         let acted = self.core.act_next(sound, self.budget - self.count, env);
         let cost = cost_of(acted);
         self.count += cost;

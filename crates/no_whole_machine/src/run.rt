@@ -1,5 +1,5 @@
 ghost use Rattle.std.specs.Prelude.{◌≡◌, ◌+◌, ◌-◌, ◌≤◌, ℕ, List, [], ◌++◌, None, true};
-ghost use Rattle.no_layout.specs.Memory.{Agrees};
+ghost use Rattle.no_layout.specs.Memory.{Agrees, IsPage};
 ghost use Rattle.no_semantics.specs.States.{instr_at};
 ghost use Rattle.no_whole_machine.specs.Acted.{MayLackMemory};
 ghost use Rattle.no_whole_machine.specs.Called.{HasNoMarks};
@@ -34,6 +34,7 @@ impl<M: Memory> Machine<M> {
         ensures later { count_of self.old ≤ count_of self.new }
         ensures made { IsFor sound.now self.new }
         ensures enough { result ≡ StepAnswer.NoMemory → MayLackMemory (instr_at (program_of M.regions sound.now self.new) (frame_of self.new.core.frame)) }
+        ensures inside { (page : ℕ) → result ≡ StepAnswer.WantPage page → IsPage (M.regions (memory_of self.new)) page }
         ensures counts { steps.new ≡ counted sound.now.role (count_of self.new - count_of self.old) steps.old }
     {
         let start = self.count;
@@ -69,6 +70,7 @@ impl<M: Memory> Machine<M> {
         ensures later { count_of self.old ≤ count_of self.new }
         ensures made { IsFor sound.now self.new }
         ensures enough { result ≡ StepAnswer.NoMemory → MayLackMemory (instr_at (program_of M.regions sound.now self.new) (frame_of self.new.core.frame)) }
+        ensures inside { (page : ℕ) → result ≡ StepAnswer.WantPage page → IsPage (M.regions (memory_of self.new)) page }
         ensures counts { steps.new ≡ counted sound.now.role (count_of self.new - count_of self.old) steps.old }
     {
         if let Some(end) = self.end {

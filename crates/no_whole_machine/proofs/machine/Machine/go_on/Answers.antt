@@ -30,6 +30,7 @@ returns-in_default g c =
       enough = λ is.
           lacks g.M.Memory.byte g.M.Memory.held g.M.Memory.regions c.args.sound.now c.steps.self c.step.new.self c.steps.env c.step.new.env [] (row_of g.M.Memory.regions c.args.sound.now c.steps.self own (c.steps.env.input ++ [])) c.step.result
           (c.step.ensures.takes inv.running own [] (λ a known. refl) (λ e. refl)) is (c.step.ensures.enough is);
+      inside = c.step.ensures.inside;
       counts = counted_then c.args.sound.now.role (count_of c.args.self.now) (count_of c.steps.self) (count_of c.step.new.self) c.args.steps.now c.steps.steps c.step.new.steps inv.later c.step.ensures.later inv.counts c.step.ensures.counts;
     }
 
