@@ -4,3 +4,9 @@
 
 #[cfg(test)]
 mod frames;
+#[cfg(test)]
+mod heap;
+#[cfg(test)]
+mod operators;
+#[cfg(test)]
+mod ports;
