@@ -1,5 +1,5 @@
-ghost use Rattle.std.specs.Prelude.{◌≡◌, ◌+◌, ◌-◌, ◌≤◌, ℕ, List, [], ◌++◌, None, length, true};
-ghost use Rattle.no_layout.specs.Memory.{Agrees, IsPage};
+ghost use Rattle.std.specs.Prelude.{◌≡◌, ◌+◌, ◌-◌, ◌*◌, ◌≤◌, ℕ, List, [], ◌++◌, None, OnErr, OnOk, false, length, true};
+ghost use Rattle.no_layout.specs.Memory.{Agrees, IsPage, also, written};
 ghost use Rattle.no_semantics.specs.States.{instr_at};
 ghost use Rattle.no_whole_machine.specs.Acted.{MayLackMemory};
 ghost use Rattle.no_whole_machine.specs.Called.{HasNoMarks};
@@ -11,7 +11,7 @@ ghost use Rattle.no_whole_machine.specs.Running.{HasNotMoved, IsFor, Stays, Take
 use crate::Steps;
 use crate::state::{Acted, Core};
 use no_heap::Heap;
-use no_ir::End;
+use no_ir::{End, NoMemory};
 use no_layout::Memory;
 use no_lib::Env;
 use no_semantics::Sound;
@@ -21,9 +21,8 @@ use std::sync::ledger::Ledger;
 #[derive(Clone, Copy, Debug, PartialEq, Eq)]
 pub enum StepAnswer {
     Stepped,
-    /// This page is absent, and it is the lowest of those that the instruction needs. It has a byte in a region. Nothing
-    /// changed: supply it, and
-    /// take the step again.
+    /// This page is absent. It is the lowest of those that the instruction needs, and has a byte in a region. Nothing
+    /// changed: supply it, and take the step again.
     WantPage(u32),
     /// The instruction takes a byte of the input, and none is there. Nothing changed: give some, or end the input.
     WantInput,
@@ -161,6 +160,22 @@ impl<M: Memory> Machine<M> {
         ensures { result.now ≡ memory_of self.now }
     {
         &self.core.mem
+    }
+
+    /// Gives the memory a page that it lacks, as one that a step wants. Nothing else changes, and where memory lacks
+    /// nothing at all.
+    pub fn supply(&mut self, page: u32, bytes: &[u8; 4096]) -> Result<(), NoMemory>
+        requires absent { M.held (memory_of self.old) page ≡ false }
+        requires inside { IsPage (M.regions (memory_of self.old)) page }
+        ensures bytes { OnOk result (M.byte (memory_of self.new) ≡ written (M.byte (memory_of self.old)) (4096 * page) bytes.now) }
+        ensures held { OnOk result (M.held (memory_of self.new) ≡ also (M.held (memory_of self.old)) page) }
+        ensures same { OnErr result (M.byte (memory_of self.new) ≡ M.byte (memory_of self.old)) }
+        ensures lacks { OnErr result (M.held (memory_of self.new) ≡ M.held (memory_of self.old)) }
+        ensures others { self.new ≡ record self.old { core = record self.old.core { mem = memory_of self.new } } }
+        ensures regions { M.regions (memory_of self.new) ≡ M.regions (memory_of self.old) }
+        ensures dirty { M.dirty (memory_of self.new) ≡ M.dirty (memory_of self.old) }
+    {
+        self.core.mem.supply(page, bytes)
     }
 
     pub fn heap(&self) -> &Heap
