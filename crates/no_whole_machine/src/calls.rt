@@ -85,11 +85,7 @@ fn flag(flags: &[bool], k: u64) -> bool
 pub(crate) fn unassigned(alloc: Global, count: usize) -> Result<List<Option<u64>>, NoMemory>
     ensures { IfOk result (λ registers. registers ≡ replicate count None) }
 {
-    let mut registers = List::new(alloc);
-    for _ in 0..count {
-        registers.push(None)?;
-    }
-    Ok(registers)
+    Ok(List::from_vec(vec![in alloc; None; count]?))
 }
 
 /// Each parameter gets its argument. Whether there were as many.
@@ -117,7 +113,9 @@ impl<M: Memory> Core<M> {
         requires { args_fit sound.now.«module» sound.now.layout sound.now.sizes args.now ≡ true }
         ensures { GathersArguments result (arguments_of (program_in M.regions sound.now self.now) self.now.frame.registers args.now) }
     {
-        let mut numbers = List::new(self.alloc);
+        let Ok(mut numbers) = Vec::with_capacity(self.alloc, args.len()) else {
+            return Arguments::NoMemory;
+        };
         for arg in args {
             match self.typed(sound, &arg.0, &arg.1) {
                 Some(n) => {
@@ -128,7 +126,7 @@ impl<M: Memory> Core<M> {
                 None => return Arguments::Unread,
             }
         }
-        Arguments::Read(numbers)
+        Arguments::Read(List::from_vec(numbers))
     }
 
     /// Whether function k may be called through a pointer.

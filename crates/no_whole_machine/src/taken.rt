@@ -198,11 +198,7 @@ fn mark_globals(flags: &mut List<bool>, globals: &[GlobalVar])
 fn unset(alloc: Global, count: usize) -> Result<List<bool>, NoMemory>
     ensures { IfOk result (λ flags. flags ≡ replicate count false) }
 {
-    let mut flags = List::new(alloc);
-    for _ in 0..count {
-        flags.push(false)?;
-    }
-    Ok(flags)
+    Ok(List::from_vec(vec![in alloc; false; count]?))
 }
 
 /// For each function of a module, whether its address is taken.

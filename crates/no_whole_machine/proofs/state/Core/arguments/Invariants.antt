@@ -7,4 +7,4 @@ use Rattle.no_whole_machine.proofs.state.Core.arguments.Given as goal
 abbrev pub invariant-loop-arg : goal.invariant-loop-arg
 invariant-loop-arg g l =
     all_given (map (argument_of (program_in g.M.Memory.regions l.sound l.self) l.self.frame.registers) l.args)
-    ≡ behind l.numbers (all_given (map (argument_of (program_in g.M.Memory.regions l.sound l.self) l.self.frame.registers) (drop l.arg-index l.args)))
+    ≡ behind l.numbers.items (all_given (map (argument_of (program_in g.M.Memory.regions l.sound l.self) l.self.frame.registers) (drop l.arg-index l.args)))
