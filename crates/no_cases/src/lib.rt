@@ -3,10 +3,16 @@
 #![tactic(auto)]
 
 #[cfg(test)]
+mod externals;
+#[cfg(test)]
 mod frames;
 #[cfg(test)]
 mod heap;
 #[cfg(test)]
+mod layouts;
+#[cfg(test)]
 mod operators;
+#[cfg(test)]
+mod pages;
 #[cfg(test)]
 mod ports;

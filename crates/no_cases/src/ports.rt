@@ -92,6 +92,39 @@ fn a_long_text_is_given_in_pieces(rt: HostRuntime) -> Result<(), AllocError> {
     Ok(())
 }
 
+/// A sink that takes no more than three bytes at once.
+#[derive(Drop)]
+struct Slow {
+    bytes: Vec<u8>,
+}
+
+impl Sink for Slow {
+    ghost use Rattle.std.specs.Prelude.{None};
+
+    ghost held = { λ _. None };
+
+    ghost faults = { λ _. 0 };
+
+    fn give(&mut self, piece: &[u8]) -> Gave {
+        let n = piece.len().min(3);
+        match self.bytes.extend_from_slice(&piece[..n]) {
+            Ok(()) => Gave::Gave(n as u32),
+            Err(_) => Gave::NoMemory,
+        }
+    }
+}
+
+#[test]
+fn what_a_sink_did_not_take_is_given_again(rt: HostRuntime) {
+    let mut slow = Slow {
+        bytes: Vec::new(rt.alloc()),
+    };
+    assert_eq!(rt; give_all(&mut slow, b"abcdefgh".as_slice()), GaveAll::Done);
+    assert_eq!(rt; slow.bytes.as_slice(), b"abcdefgh".as_slice());
+    assert_eq!(rt; give_all(&mut slow, b"".as_slice()), GaveAll::Done);
+    assert_eq!(rt; slow.bytes.len(), 8);
+}
+
 #[test]
 fn files_are_read(rt: HostRuntime) -> Result<(), AllocError> {
     let alloc = rt.alloc();
