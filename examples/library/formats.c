@@ -1,7 +1,10 @@
 /* printf and its kin: each conversion with many flags, widths and precisions, on edge values. */
+#define _GNU_SOURCE
 #include <inttypes.h>
+#include <stdarg.h>
 #include <stddef.h>
 #include <stdio.h>
+#include <stdlib.h>
 #include <string.h>
 #include "check.h"
 
@@ -86,6 +89,106 @@ static void bounds(void) {
     report("snprintf");
 }
 
+/* A format that is put together at run time, and arguments that are handed on as a list. */
+static int listed(char *to, size_t n, const char *format, ...) {
+    va_list list;
+    va_start(list, format);
+    int count = vsnprintf(to, n, format, list);
+    va_end(list);
+    return count;
+}
+
+static int unbounded(char *to, const char *format, ...) {
+    va_list list;
+    va_start(list, format);
+    int count = vsprintf(to, format, list);
+    va_end(list);
+    return count;
+}
+
+static int made(const char *format, ...) {
+    char *text;
+    va_list list;
+    va_start(list, format);
+    int count = vasprintf(&text, format, list);
+    va_end(list);
+    strcpy(line, text);
+    free(text);
+    return count;
+}
+
+/* Flags, a width and a precision behind %. */
+static void begun(char *format) {
+    static const char *const flags[] = {"", "", "-", "+", " ", "#", "0", "-#", "+0", "-0", " -"}, *const widths[] = {"", "", "1", "9", "23", "*"};
+    static const char *const precisions[] = {"", "", ".", ".0", ".3", ".11", ".*"};
+    strcpy(format, "<%");
+    strcat(format, flags[draw(11)]);
+    strcat(format, widths[draw(6)]);
+    strcat(format, precisions[draw(7)]);
+}
+
+/* A call of each of the functions, with the measures that the format asks for. */
+#define MEASURED(call, n)                                                                          \
+    if (strchr(format, '*') != strrchr(format, '*'))                                               \
+        noted(call(w, p, n, w));                                                                   \
+    else if (strchr(format, '*'))                                                                  \
+        noted(call(w, n, p));                                                                      \
+    else                                                                                           \
+        noted(call(n, w));
+#define LISTED(...) listed(line, sizeof line, format, __VA_ARGS__)
+#define UNBOUNDED(...) unbounded(line, format, __VA_ARGS__)
+#define MADE(...) made(format, __VA_ARGS__)
+#define PLAIN(...) snprintf(line, sizeof line, format, __VA_ARGS__)
+#define ALLOCATED(...) (asprintf(&own, format, __VA_ARGS__) + 0 * (int)strlen(strcpy(line, own)))
+
+static void chosen(void) {
+    static const char *const ends[] = {"d|%i>", "i|%%%d>", "u|%d>", "x>%x", "X %d", "o %i"};
+    static const char *const wides[] = {"lld|%i>", "jd %d", "llx:%u", "jo%i", "llu%d", "qi %d"}, *const shorts[] = {"hhd%d", "hi %d", "hhx%d", "hu%%%d"};
+    char format[60], *own = line;
+    for (int round = 0; round < 5500; round++) {
+        int64_t n = any();
+        int w = (int)draw(20) - 6, p = (int)draw(10) - 2;
+        begun(format);
+        strcat(format, ends[draw(6)]);
+        MEASURED(LISTED, (int)n)
+        MEASURED(PLAIN, (int)n)
+        begun(format);
+        strcat(format, wides[draw(6)]);
+        MEASURED(UNBOUNDED, (long long)n)
+        begun(format);
+        strcat(format, shorts[draw(4)]);
+        MEASURED(MADE, (int)n)
+        begun(format);
+        strcat(format, draw(2) ? "ld.%d" : "zx.%d");
+        MEASURED(LISTED, (long)(n & 0x7FFFFFFF))
+        MEASURED(ALLOCATED, (long)(n & 0x7FFFFFFF))
+        if (own != line)
+            free(own);
+        own = line;
+    }
+    report("run time");
+    for (int round = 0; round < 1100; round++) {
+        int w = (int)draw(20) - 6;
+        strcpy(format, draw(2) ? "%*s|%c%%" : "%-*s,%5c");
+        strcat(format, draw(2) ? "%.3s %p" : "%9.1s%p");
+        noted(sprintf(line, format, w, draw(2) ? "abc" : "", 'a' + round % 26, "other", (void *)(size_t)(draw(2) * 4096)));
+        noted(made(draw(2) ? "no conversion" : "%%"));
+        called(listed(line, draw(20), draw(2) ? "%d and more" : "%x and then %%", (int)any()));
+    }
+    report("run time, s");
+}
+
+/* Prints a list on a stream. */
+static int print(FILE *to, const char *format, ...) {
+    va_list list, again;
+    va_start(list, format);
+    va_copy(again, list);
+    int count = vfprintf(to, format, list) + (to == stdout ? vprintf(format, again) : 0);
+    va_end(list);
+    va_end(again);
+    return count;
+}
+
 static FILE *output(void) { return stdout; }
 
 static void streams(void) {
@@ -94,6 +197,12 @@ static void streams(void) {
         n += printf("%d:%s%c", k, k % 7 ? "" : "seven", k % 20 == 19 ? '\n' : ' ');
         n += fprintf(stdout, "%x,%o;", (unsigned)k, (unsigned)k);
         n += fprintf(stderr, "unseen %d\n", k);
+    }
+    for (int k = 0; k < 1000; k++) {
+        const char *format = k % 3 ? "%d:%s%c" : "%5d,%-3s%c";
+        n += printf(format, k, k % 7 ? "" : "seven", k % 20 == 19 ? '\n' : ' ');
+        n += fprintf(k % 5 ? stdout : stderr, format, -k, "-", '.');
+        n += print(k % 5 ? stdout : stderr, format, k, "=", '!');
     }
     printf("\n%d bytes%s\n", n, "");
     fprintf(output(), "%s\n", "a call in the place of the stream");
@@ -104,6 +213,7 @@ int main(void) {
     widths();
     texts();
     bounds();
+    chosen();
     streams();
     return 0;
 }

@@ -1,6 +1,5 @@
 /* The three standard streams. Input and output are the run's; what goes to stderr is written nowhere, since the run has one
-   output. printf and its kin stand in calls with a literal format alone, which from-c parts into calls of the functions at
-   the end. */
+   output. A call of printf or its kin with a literal format is parted by from-c into calls of the functions of src/formats.c. */
 #ifndef LIB_STDIO_H
 #define LIB_STDIO_H
 
@@ -59,5 +58,18 @@ int printf(const char *__restrict format, ...) __attribute__((format(printf, 1, 
 int fprintf(FILE *__restrict stream, const char *__restrict format, ...) __attribute__((format(printf, 2, 3)));
 int sprintf(char *__restrict to, const char *__restrict format, ...) __attribute__((format(printf, 2, 3)));
 int snprintf(char *__restrict to, size_t n, const char *__restrict format, ...) __attribute__((format(printf, 3, 4)));
+int asprintf(char **to, const char *format, ...) __attribute__((format(printf, 2, 3)));
+int vprintf(const char *__restrict format, va_list list);
+int vfprintf(FILE *__restrict stream, const char *__restrict format, va_list list);
+int vsprintf(char *__restrict to, const char *__restrict format, va_list list);
+int vsnprintf(char *__restrict to, size_t n, const char *__restrict format, va_list list);
+int vasprintf(char **to, const char *format, va_list list);
+
+int scanf(const char *__restrict format, ...) __attribute__((format(scanf, 1, 2)));
+int fscanf(FILE *__restrict stream, const char *__restrict format, ...) __attribute__((format(scanf, 2, 3)));
+int sscanf(const char *__restrict text, const char *__restrict format, ...) __attribute__((format(scanf, 2, 3)));
+int vscanf(const char *__restrict format, va_list list);
+int vfscanf(FILE *__restrict stream, const char *__restrict format, va_list list);
+int vsscanf(const char *__restrict text, const char *__restrict format, va_list list);
 
 #endif

@@ -4,6 +4,8 @@
 #include "formats.c"
 #include "memory.c"
 #include "numbers.c"
+#include "printing.c"
+#include "scanning.c"
 #include "sorting.c"
 #include "streams.c"
 #include "string.c"

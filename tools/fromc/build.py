@@ -1,7 +1,7 @@
 """The commands of LLVM that make a module of C files."""
-import hashlib, os, re, shutil, subprocess
+import glob, hashlib, os, re, shutil, subprocess
 
-import constants, formats, lower
+import constants, formats, lower, variadic
 from judge import EXTERNALS
 from text import NAME
 
@@ -68,7 +68,8 @@ def sum_of(clang):
         folders.sort()
         for name in sorted(files):
             it.update(name.encode() + open(f"{folder}/{name}", "rb").read())
-    it.update(open(__file__, "rb").read())
+    for name in sorted(glob.glob(f"{ROOT}/tools/fromc/*.py")):
+        it.update(open(name, "rb").read())
     return it.hexdigest()[:20]
 
 
@@ -117,7 +118,7 @@ class Build:
             self.compile(source, words, files[-1])
         whole = self.linked(files) if len(files) > 1 else files[0]
         lines, whole = formats.rewritten(read(whole), self.size), self.file("whole")
-        write(whole, lines)
+        write(whole, variadic.plain(lines, self.target, variadic.heads(read(self.library()[0]))))
         return self.opt(f"internalize,{TIDIED}", whole, *KEEP)
 
     def compile(self, source, words, to):
@@ -142,9 +143,12 @@ class Build:
         self.built = f"{kept}.library.ll", f"{kept}.runtime.ll"
         if not all(map(os.path.exists, self.built)):
             library, runtime = self.file("library"), self.file("runtime")
-            self.clang(f"{ROOT}/lib/src/all.c", ["-std=gnu17", "-Os", *PLAIN, "-g0"], library)
-            self.clang(f"{ROOT}/lib/runtime/intrinsics.c", ["-std=gnu17", "-O1", *PLAIN, "-g0", "-Xclang", "-disable-llvm-passes"], runtime)
-            shutil.move(library, self.built[0])
+            words = ["-std=gnu17", *PLAIN, "-g0", "-Xclang", "-disable-llvm-passes"]
+            self.clang(f"{ROOT}/lib/src/all.c", ["-Os", *words], library)
+            self.clang(f"{ROOT}/lib/runtime/intrinsics.c", ["-O1", *words], runtime)
+            write(library, variadic.plain(read(library), self.target, {}))
+            self.clang(library, ["-Os", *PLAIN], self.file("optimised"), "ir")
+            shutil.move(f"{self.folder}/{self.count}.optimised.ll", self.built[0])
             shutil.move(self.opt("function(sroa,early-cse,simplifycfg)", runtime), self.built[1])
         return self.built
 

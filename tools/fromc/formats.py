@@ -20,6 +20,9 @@ DECLARED = {
 }
 
 
+NO_LITERAL = "its format is no literal"
+
+
 class NotLiteral(Exception):
     """Why a call of printf stays one."""
 
@@ -44,7 +47,7 @@ class Rewriting:
         at = FORMATTED[call.name]
         self.format = re.fullmatch(r"@([-\w$.]+)", values[at][1])
         if not self.format or self.format[1] not in texts or 0 not in texts[self.format[1]]:
-            raise NotLiteral("its format is no literal")
+            raise NotLiteral(NO_LITERAL)
         self.format = self.format[1]
         self.text = texts[self.format].split(b"\0")[0]
         self.left = values[at + 1 :]
@@ -183,11 +186,11 @@ def rewritten(lines, size):
     return out
 
 
-def why_not(line, lines):
-    """Why a call of printf stays one."""
+def why_not(line, texts):
+    """Why a call of printf stays one. The texts are those of `literals`."""
     call = Call(line)
     try:
-        Rewriting(call, literals(lines), "i32", 0).done()
+        Rewriting(call, texts, "i32", 0).done()
     except NotLiteral as it:
         return str(it)
     return ""

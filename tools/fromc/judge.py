@@ -2,7 +2,8 @@
 in the C source."""
 import re, subprocess
 
-from text import Call, NAME, closing
+from formats import FORMATTED
+from text import NAME
 
 TYPES = ("i1", "i8", "i16", "i32", "i64")
 LEFT_OUT = set(
@@ -100,8 +101,9 @@ def findings(lines):
         if line.startswith("declare "):
             continue
         said = finding(line)
-        if said is None and declared and "@" in line:
-            said = next(((it, "is a function that neither the program nor the library has") for it in re.findall(rf"@({NAME})", line) if it in declared), None)
+        if (said is None or said[0] == "...") and declared and "@" in line:
+            unknown = [it for it in re.findall(rf"@({NAME})", line) if it in declared and not (said and it in FORMATTED)]
+            said = (unknown[0], "is a function that neither the program nor the library has") if unknown else said
         if said is None and " external " in line and line.startswith("@"):
             said = line[1:].split(" ")[0], "is an object that no file defines"
         if said:
