@@ -1,6 +1,14 @@
 /* A factorial, a power modulo a number, a common divisor and a test of primes with LibTomMath. */
 #include <stdio.h>
+#include <stdlib.h>
 #include <tommath.h>
+
+/* The random bytes, which the library leaves to the platform; the test of primes draws from them. */
+mp_err s_mp_rand_platform(void *to, size_t n) {
+    for (size_t k = 0; k < n; k++)
+        ((unsigned char *)to)[k] = (unsigned char)(rand() >> 8);
+    return MP_OKAY;
+}
 
 static void show(const mp_int *a) {
     char text[600];

@@ -98,7 +98,29 @@ static void blocks(void) {
     report("realloc");
 }
 
+/* Blocks that are never moved, each filled and read again after others came and went. */
+static void fresh_blocks(void) {
+    unsigned char *kept[64] = {NULL};
+    unsigned sizes[64] = {0};
+    for (int round = 0; round < 6000; round++) {
+        unsigned k = draw(64), n = draw(8) ? 1 + draw(200) : 0;
+        note_bytes(kept[k], sizes[k]);
+        free(kept[k]);
+        kept[k] = round % 3 == 0 ? malloc(n + 1) : round % 3 == 1 ? calloc(n, draw(2) ? 1 : 2) : reallocarray(NULL, n + 1, 2);
+        called(n == 0 || kept[k] != NULL);
+        sizes[k] = n;
+        if (round % 3 == 1)
+            note_bytes(kept[k], n);
+        for (unsigned i = 0; i < n; i++)
+            kept[k][i] = (unsigned char)draw(256);
+    }
+    for (int k = 0; k < 64; k++)
+        free(kept[k]);
+    report("malloc");
+}
+
 int main(void) {
+    fresh_blocks();
     sorts();
     searches();
     blocks();

@@ -34,6 +34,8 @@ static void classes(void) {
     CLASS(isspace)
     CLASS(isupper)
     CLASS(isxdigit)
+    CLASS(isascii)
+    CASE(toascii)
     CASE(tolower)
     CASE(toupper)
 }
@@ -133,7 +135,8 @@ static int64_t quotients(void) {
     lldiv_t wide = lldiv(n, by);
     ldiv_t middle = ldiv((int)n, (int)by == 0 || (int)n == INT_MIN ? 3 : (int)by);
     div_t narrow = div((int)n, (int)by == 0 || (int)n == INT_MIN ? 3 : (int)by);
-    note(wide.quot), note(wide.rem), note(middle.quot), note(middle.rem), note(narrow.quot);
+    imaxdiv_t widest = imaxdiv(n, by);
+    note(wide.quot), note(wide.rem), note(middle.quot), note(middle.rem), note(narrow.quot), note(widest.quot), note(widest.rem);
     return narrow.rem;
 }
 

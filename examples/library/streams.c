@@ -65,13 +65,17 @@ static void writing(void) {
         called(fputs("unseen", stderr) >= 0);
         called(fputc('\n', stderr));
         called(fflush(stdout));
-        if (k % 100 == 0)
-            called(puts("") >= 0);
-        if (k % 150 == 0)
-            called(puts("a whole line") >= 0);
+        called(puts(k % 3 ? "" : "a whole line") >= 0);
+        called(feof(stdout) + ferror(stdout));
+        clearerr(stdout);
     }
-    puts("");
     report("writing");
+    for (int k = 0; k < 1000; k++) {
+        called(setvbuf(stdout, NULL, _IOFBF, BUFSIZ));
+        setbuf(stderr, NULL);
+        called(fflush(NULL));
+    }
+    report("buffers");
 }
 
 int main(void) {

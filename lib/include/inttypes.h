@@ -46,6 +46,7 @@ typedef struct {
 } imaxdiv_t;
 
 intmax_t imaxabs(intmax_t n);
+static inline __attribute__((always_inline)) imaxdiv_t imaxdiv(intmax_t n, intmax_t by) { return (imaxdiv_t){n / by, n % by}; }
 intmax_t strtoimax(const char *__restrict text, char **__restrict end, int base);
 uintmax_t strtoumax(const char *__restrict text, char **__restrict end, int base);
 

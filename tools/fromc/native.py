@@ -9,6 +9,8 @@ TARGETS = {
     "mips": (["mips-linux-gnu-gcc", "-static"], ["qemu-mips"], "mips-linux-gnu"),
 }
 LEVELS = ("-O0", "-O1", "-O2")
+# The greatest budget that the program takes.
+MOST_STEPS = 4294967296
 
 
 def clang():
@@ -34,10 +36,19 @@ def by_target(target, text, given, folder):
     return run([*emulator, f"{folder}/linked"], given)[:2]
 
 
-def by_program(text, given):
-    """What the program at $NATIVEOFF makes of a module, or nothing where it doesn't run it."""
-    program = os.environ.get("NATIVEOFF")
-    if not program:
+def program():
+    """The program at $NATIVEOFF, or the one that was built in this repository, or nothing."""
+    built = os.path.join(os.path.dirname(os.path.abspath(__file__)), "..", "..", "crates", "nativeoff", "out", "nativeoff")
+    return os.environ.get("NATIVEOFF") or (built if os.access(built, os.X_OK) else None)
+
+
+def by_program(text, given=b""):
+    """What the program makes of a module, or nothing where it doesn't run it. A run that doesn't end by itself has its last line in
+    the place of a status."""
+    if not program():
         return None
-    output, status, said = run([program, "local", text], given)
-    return None if "bad module read 2 at 0" in said else (output, status)
+    output, status, said = run([program(), "local", text, "--steps", str(MOST_STEPS)], given)
+    last = (said.strip().split("\n") or [""])[-1].removeprefix("nativeoff: ")
+    if last == "bad module read 2 at 0":
+        return None
+    return output, status if last == f"exited {status}" else last
