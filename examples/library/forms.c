@@ -49,6 +49,48 @@ __attribute__((noinline)) static const char *name(int n) {
     }
 }
 
+/* Addresses of labels, as interpreters use them. */
+__attribute__((noinline)) static int interpreted(const unsigned char *code, int n) {
+    static const void *const table[] = {&&more, &&twice, &&less, &&end};
+    const void *at = &&end;
+    goto *table[*code++];
+more:
+    n += 3;
+    goto *table[*code++];
+twice:
+    n *= 2;
+    goto *table[*code++];
+less:
+    n -= 1;
+    at = table[*code++];
+    goto *at;
+end:
+    return n;
+}
+
+static _Atomic int held = 3;
+static int shared = 4;
+static unsigned char small = 250;
+
+/* There are no threads, so what is done at once is done one thing after the other. */
+__attribute__((noinline)) static int at_once(int n) {
+    int wanted = 4, other = 77;
+    held += n;
+    small = (unsigned char)__sync_fetch_and_add(&small, 9);
+    __atomic_thread_fence(__ATOMIC_SEQ_CST);
+    int first = __atomic_compare_exchange_n(&shared, &wanted, n, 0, __ATOMIC_SEQ_CST, __ATOMIC_RELAXED);
+    int second = __atomic_compare_exchange_n(&shared, &other, 5, 1, __ATOMIC_ACQ_REL, __ATOMIC_ACQUIRE);
+    return held * 1000 + first * 100 + second * 10 + __atomic_exchange_n(&shared, 8, __ATOMIC_RELEASE) + other + small + __sync_val_compare_and_swap(&shared, 8, 2) + shared;
+}
+
+int thrice(int n) { return 3 * n; }
+int other_name(int n) __attribute__((alias("thrice")));
+static int number = 5;
+static const char *const kept __attribute__((used)) = "kept";
+__attribute__((constructor(300))) static void second(void) { number = number * 2 + 1; }
+__attribute__((constructor(200))) static void first(void) { number += 10; }
+extern int other_number __attribute__((alias("number")));
+
 int main(int argc, char **argv) {
     volatile unsigned seed = 0x82345679;
     unsigned x = seed;
@@ -69,6 +111,10 @@ int main(int argc, char **argv) {
     for (int k = 0; k < 8; k++)
         printf("%s ", name((int)(x >> k & 7)));
     printf("%d\n", argc > 100 ? argv[0][0] : 0);
+    int (*volatile named)(int) = other_name;
+    other_number++;
+    printf("%d %d %d\n", other_name(4), named(5), number);
+    printf("%d %d\n", interpreted((const unsigned char[]){0, 1, 2, 1, 3}, (int)(x & 15)), at_once(6));
     if (x == 1)
         __builtin_trap();
     return (int)(x & 127);

@@ -1,7 +1,7 @@
 """The commands of LLVM that make a module of C files."""
 import glob, hashlib, os, re, shutil, subprocess
 
-import constants, formats, lower, variadic
+import constants, formats, lower, names, variadic
 from judge import EXTERNALS
 from text import NAME
 
@@ -117,9 +117,9 @@ class Build:
             files.append(self.file(os.path.basename(source)))
             self.compile(source, words, files[-1])
         whole = self.linked(files) if len(files) > 1 else files[0]
-        lines, whole = formats.rewritten(read(whole), self.size), self.file("whole")
+        lines, whole = formats.rewritten(names.plain(read(whole), self.size), self.size), self.file("whole")
         write(whole, variadic.plain(lines, self.target, variadic.heads(read(self.library()[0]))))
-        return self.opt(f"internalize,{TIDIED}", whole, *KEEP)
+        return self.opt(f"internalize,{TIDIED},function(lower-atomic)", whole, *KEEP)
 
     def compile(self, source, words, to):
         """Old C is tried where a source is refused and its words name no standard."""
