@@ -1,0 +1,11 @@
+pub mod Finding
+pub mod Marking
+pub mod Tables
+pub mod Turns
+pub mod Nearer
+pub mod Ways
+pub mod Walking
+pub mod Alike
+pub mod Shaping
+pub mod Typed
+pub mod Graphs
