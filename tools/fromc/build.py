@@ -1,7 +1,7 @@
 """The commands of LLVM that make a module of C files."""
 import glob, hashlib, os, re, shutil, subprocess
 
-import constants, formats, lower, names, variadic
+import constants, formats, lower, names, variadic, widths
 from judge import EXTERNALS
 from text import NAME
 
@@ -118,7 +118,8 @@ class Build:
             self.compile(source, words, files[-1])
         whole = self.linked(files) if len(files) > 1 else files[0]
         lines, whole = formats.rewritten(names.plain(read(whole), self.size), self.size), self.file("whole")
-        write(whole, variadic.plain(lines, self.target, variadic.heads(read(self.library()[0]))))
+        lines = variadic.plain(lines, self.target, variadic.heads(read(self.library()[0])))
+        write(whole, widths.kept(lines, self.target == "mips", "wide"))
         return self.opt(f"internalize,{TIDIED},function(lower-atomic)", whole, *KEEP)
 
     def compile(self, source, words, to):
@@ -162,7 +163,8 @@ class Build:
             text = self.file("sized")
             write(text, lower.sized(lines, self.size))
             text = self.linked([text, library], "-only-needed")
-        lines, text = lower.lowered(read(text), self.size), self.file("lowered")
+        lines = widths.kept(read(text), self.target == "mips", "wider")
+        lines, text = lower.lowered(lines, self.size), self.file("lowered")
         write(text, lines)
         if any("@__lower_" in it for it in lines):
             text = self.linked([text, runtime], "-only-needed")
