@@ -1,0 +1,9 @@
+//! The filter: which functions may move to a server, and if one may not, along which path the reason lies.
+#![tactic(auto)]
+
+mod judging;
+mod reasons;
+mod rules;
+
+pub use judging::judge;
+pub use rules::{Rule, Verdict};
