@@ -3,6 +3,8 @@
 #![tactic(auto)]
 
 #[cfg(test)]
+mod decoding;
+#[cfg(test)]
 mod externals;
 #[cfg(test)]
 mod frames;
@@ -16,3 +18,5 @@ mod operators;
 mod pages;
 #[cfg(test)]
 mod ports;
+#[cfg(test)]
+mod spellings;
