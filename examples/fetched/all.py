@@ -24,7 +24,7 @@ PACKAGES = {
     "lz4": ("lib/lz4.c lib/lz4hc.c", "-IFOLDER/lib"),
     "bzip2": ("blocksort.c huffman.c crctable.c randtable.c compress.c decompress.c bzlib.c", "-IFOLDER -DBZ_NO_STDIO"),
     "xxhash": ("xxhash.c", "-IFOLDER"),
-    "libtommath": ("bn_*.c", "-IFOLDER -DMP_28BIT -DMP_NO_FILE -DBN_MP_SET_DOUBLE_C=0 -DMP_NO_DEV_URANDOM"),
+    "libtommath": ("bn_*.c", "-IFOLDER -DMP_32BIT -DMP_NO_FILE -DBN_MP_SET_DOUBLE_C=0 -DMP_NO_DEV_URANDOM"),
     "lzo2": ("minilzo/minilzo.c", "-IFOLDER/minilzo -IFOLDER/include -IFOLDER/include/lzo"),
     "liblzf": ("lzf_c.c lzf_d.c", "-IFOLDER"),
     "http-parser": ("http_parser.c", "-IFOLDER"),

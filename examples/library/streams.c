@@ -1,14 +1,16 @@
 /* The functions of stdio.h on the standard streams. The input is read to its end by all reading functions in turn. */
+#define _GNU_SOURCE
 #include <stdio.h>
 #include <string.h>
 #include "check.h"
 
 static void reading(void) {
-    char line[40];
+    char line[40], *other = NULL;
+    size_t left = 0;
     int most = 0;
     for (int k = 0; !feof(stdin) && most < 30000; k++, most++) {
         int c;
-        switch (k % 9) {
+        switch (k % 11) {
         case 0:
         case 5:
             called(getchar());
@@ -32,6 +34,17 @@ static void reading(void) {
             note_bytes(line, (unsigned)(n * size));
             break;
         }
+        case 9: {
+            static char *whole;
+            static size_t room;
+            called(getline(&whole, &room, stdin));
+            note_bytes(whole, (unsigned)strlen(whole));
+            break;
+        }
+        case 10:
+            called(getdelim(&other, &left, 'Z', stdin));
+            note_bytes(other, (unsigned)strlen(other));
+            break;
         default:
             c = getchar();
             called(c);

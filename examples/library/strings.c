@@ -47,6 +47,8 @@ static void searches(void) {
     EACH("strcspn", b[draw(4)] = 0; called(strcspn(a + at, b));)
     EACH("strpbrk", b[draw(4)] = 0; called(place(strpbrk(a + at, b), a));)
     EACH("strstr", b[draw(4)] = 0; called(place(strstr(a + at, b), a));)
+    EACH("strcasestr", b[draw(4)] = 0; called(place(strcasestr(a + at, b), a));)
+    EACH("memmem", called(place(memmem(a + at, n, b, draw(4)), a));)
 }
 
 /* A copy with few changes, so that comparisons go far. */
@@ -94,6 +96,8 @@ static void tokens(void) {
          called(-2); note_bytes(a, 40);)
     EACH("strtok_r", char *rest; b[1 + draw(3)] = 0;
          for (char *it = strtok_r(a + at, b, &rest); it; it = strtok_r(NULL, draw(2) ? b : ", ", &rest)) called(place(it, a)), note(strlen(it));
+         called(-2); note_bytes(a, 40);)
+    EACH("strsep", char *it, *rest = a + at; b[1 + draw(3)] = 0; while ((it = strsep(&rest, b))) called(place(it, a)), note(strlen(it));
          called(-2); note_bytes(a, 40);)
     EACH("strdup", char *it = strdup(a + at); called(strlen(it)); note_bytes(it, strlen(it) + 1); free(it);)
     EACH("strndup", char *it = strndup(a + at, draw(30)); called(strlen(it)); note_bytes(it, strlen(it) + 1); free(it);)

@@ -6,6 +6,7 @@
 #include <stddef.h>
 #include <stdarg.h>
 
+typedef __PTRDIFF_TYPE__ ssize_t;
 typedef struct __stream FILE;
 struct __stream {
     /* Where bytes go or come from: 0 the input, 1 the output, 2 nowhere, 3 the memory from `at`. */
@@ -45,6 +46,8 @@ int fputs(const char *__restrict text, FILE *__restrict stream);
 size_t fread(void *__restrict to, size_t size, size_t count, FILE *__restrict stream);
 size_t fwrite(const void *__restrict from, size_t size, size_t count, FILE *__restrict stream);
 int getc(FILE *stream);
+ssize_t getdelim(char **__restrict line, size_t *__restrict room, int end, FILE *__restrict stream);
+ssize_t getline(char **__restrict line, size_t *__restrict room, FILE *__restrict stream);
 void perror(const char *text);
 int putc(int c, FILE *stream);
 void setbuf(FILE *__restrict stream, char *__restrict room);
@@ -53,6 +56,10 @@ int ungetc(int c, FILE *stream);
 
 /* So that a byte that was pushed back is met by getchar too. */
 #define getchar() fgetc(stdin)
+#define getchar_unlocked() fgetc(stdin)
+#define getc_unlocked(stream) fgetc(stream)
+#define putchar_unlocked(c) putchar(c)
+#define putc_unlocked(c, stream) fputc(c, stream)
 
 int printf(const char *__restrict format, ...) __attribute__((format(printf, 1, 2)));
 int fprintf(FILE *__restrict stream, const char *__restrict format, ...) __attribute__((format(printf, 2, 3)));

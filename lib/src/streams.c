@@ -74,6 +74,28 @@ char *fgets(char *__restrict to, int n, FILE *__restrict stream) {
     return to;
 }
 
+/* The block is made greater by doubling, from 120 bytes on. */
+ssize_t getdelim(char **__restrict line, size_t *__restrict room, int end, FILE *__restrict stream) {
+    size_t n = 0;
+    int c = 0;
+    if (!*line)
+        *room = 0;
+    while (c != end && (c = fgetc(stream)) != EOF) {
+        if (n + 2 > *room) {
+            size_t more = *room < 60 ? 120 : *room * 2;
+            char *block = realloc(*line, more);
+            if (!block)
+                return -1;
+            *line = block, *room = more;
+        }
+        (*line)[n++] = (char)c;
+        (*line)[n] = 0;
+    }
+    return n > 0 ? (ssize_t)n : -1;
+}
+
+ssize_t getline(char **__restrict line, size_t *__restrict room, FILE *__restrict stream) { return getdelim(line, room, '\n', stream); }
+
 size_t fread(void *__restrict to, size_t size, size_t count, FILE *__restrict stream) {
     unsigned char *d = to;
     size_t k = 0;

@@ -130,6 +130,33 @@ char *strstr(const char *in, const char *what) {
     return NULL;
 }
 
+char *strcasestr(const char *in, const char *what) {
+    size_t n = strlen(what);
+    for (;; in++) {
+        if (strncasecmp(in, what, n) == 0)
+            return (char *)in;
+        if (!*in)
+            return NULL;
+    }
+}
+
+void *memmem(const void *in, size_t n, const void *what, size_t m) {
+    for (const char *at = in; m <= n; at++, n--)
+        if (memcmp(at, what, m) == 0)
+            return (void *)at;
+    return NULL;
+}
+
+char *strsep(char **__restrict rest, const char *__restrict stops) {
+    char *at = *rest;
+    if (!at)
+        return NULL;
+    char *end = at + strcspn(at, stops);
+    *rest = *end ? end + 1 : NULL;
+    *end = 0;
+    return at;
+}
+
 char *strtok_r(char *__restrict at, const char *__restrict stops, char **__restrict rest) {
     if (!at)
         at = *rest;
