@@ -24,6 +24,23 @@ __attribute__((noinline)) static int lengths(int n) {
     return sum;
 }
 
+/* Arrays of other lengths in each round of a loop, which is left in several ways. */
+__attribute__((noinline)) static int rounds(int n) {
+    int sum = 0;
+    for (int k = 1; k < n; k++) {
+        int room[k], (*two)[k] = &room;
+        struct bits more[1 + k % 3];
+        for (int i = 0; i < k; i++)
+            room[i] = i * k + sum % 7, more[i % (1 + k % 3)].c = i - k;
+        if (k % 7 == 3)
+            continue;
+        sum += (*two)[k / 2] - more[0].c + (k > 5 ? rounds(k / 3) : 0);
+        if (sum > 100000)
+            return sum;
+    }
+    return sum;
+}
+
 __attribute__((noinline)) static unsigned hidden(unsigned x) {
     __asm__ volatile("" : "+r"(x));
     __asm__ volatile("" ::: "memory");
@@ -96,7 +113,7 @@ int main(int argc, char **argv) {
     unsigned x = seed;
     struct bits bits = {x, x >> 3, -(int)(x & 0xFFFF), x >> 7};
     own += lengths(12);
-    printf("%d %d\n", own, lengths(2));
+    printf("%d %d %d %d\n", own, lengths(2), rounds(20), rounds(400));
     printf("%u %u %d %u\n", bits.a, bits.b, bits.c, bits.d);
     bits.c += 70000, bits.b ^= 12345;
     printf("%u %u %d %u\n", bits.a, bits.b, bits.c, bits.d);

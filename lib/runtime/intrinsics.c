@@ -1,5 +1,5 @@
-/* What from-c calls in place of LLVM's integer intrinsics that the text profile leaves out. Each function is plain operators
-   alone and is inlined. It is compiled without optimisation, so that no compiler finds the intrinsics in it again. */
+/* What from-c calls in place of LLVM's integer intrinsics that the text profile leaves out. Each function but those of the room is
+   plain operators alone and is inlined. It is compiled without optimisation, so that no compiler finds the intrinsics in it again. */
 
 #define INLINE __attribute__((always_inline))
 
@@ -84,4 +84,32 @@ INLINE unsigned char __lower_bitreverse_i8(unsigned char x) { return (unsigned c
 INLINE unsigned short __lower_bitreverse_i16(unsigned short x) { return (unsigned short)(__lower_bitreverse_i32(x) >> 16); }
 INLINE unsigned long long __lower_bitreverse_i64(unsigned long long x) {
     return (unsigned long long)__lower_bitreverse_i32((unsigned)x) << 32 | __lower_bitreverse_i32((unsigned)(x >> 32));
+}
+
+/* Room of variable size that is taken again and again in a function: blocks, the last one on top, down to one that was marked. */
+struct room {
+    struct room *below;
+} __attribute__((aligned(16)));
+static struct room *top;
+void *malloc(__SIZE_TYPE__ n);
+void free(void *block);
+_Noreturn void abort(void);
+
+void *__lower_room_mark(void) { return top; }
+
+void *__lower_room_take(__SIZE_TYPE__ n) {
+    struct room *it = malloc(sizeof *it + n);
+    if (!it)
+        abort();
+    it->below = top;
+    top = it;
+    return it + 1;
+}
+
+void __lower_room_back(void *mark) {
+    while (top != mark) {
+        struct room *it = top;
+        top = it->below;
+        free(it);
+    }
 }

@@ -2,13 +2,15 @@
 import re
 
 import aggregates
-from text import ATTACHED, Call, functions, named, on_circle, operand
+from text import ATTACHED, LABEL, NAME, Call, functions, named, on_circle, operand
 
 WIDE = ("i8", "i16", "i32", "i64")
 # Whose result and arguments are all of the type that the name ends with; how many arguments are handed on.
 SAME = {"fshl": 3, "fshr": 3, "ctlz": 1, "cttz": 1, "ctpop": 1, "bitreverse": 1, "abs": 1, "sadd.sat": 2, "uadd.sat": 2, "ssub.sat": 2, "usub.sat": 2, "sshl.sat": 2, "ushl.sat": 2}
 PAIRS = re.compile(r"llvm\.([su])(add|sub|mul)\.with\.overflow\.(i\d+)$")
 DROPPED = ("llvm.experimental.noalias.scope.decl", "llvm.dbg.", "llvm.donothing", "llvm.sideeffect", "llvm.prefetch", "llvm.invariant.", "llvm.pseudoprobe", "llvm.var.annotation", "llvm.fake.use")
+# An alloca whose count is a register.
+ROOM = re.compile(rf"\s+(%{NAME}) = alloca ([^,]+), (i\d+) (%{NAME})(?:, align \d+)?")
 BITS = {"umin": "and", "smax": "and", "umax": "or", "smin": "or"}
 
 
@@ -39,10 +41,33 @@ class Lowering:
             uses = len(re.findall(rf"{re.escape(it)}(?![-\w$.])", text)) - 1
             if uses != len(re.findall(rf"extractvalue \{{ i\d+, i1 \}} {re.escape(it)},", text)):
                 del self.pairs[it]
-        self.circle = on_circle(body) if "llvm.stackrestore" in text else set()
-        return [made for at, line in enumerate(body) for made in self.line(at, line)]
+        circle = on_circle(body) if "llvm.stackrestore" in text else set()
+        self.is_by_blocks = any("@llvm.stackrestore" in body[at] for at in circle)
+        lines = [made for line in body for made in self.line(line)]
+        return self.with_blocks(lines) if self.is_by_blocks else lines
 
-    def line(self, at, line):
+    def with_blocks(self, body):
+        """The function with its room of variable size in blocks of the heap, which are freed where it ends."""
+        out = []
+        for line in body:
+            it = ROOM.match(line)
+            if it:
+                bytes, attached = [self.fresh("bytes"), self.fresh("bytes")], ATTACHED.search(line)[1]
+                out.append(f"  {bytes[0]} = getelementptr {it[2]}, ptr null, {it[3]} {it[4]}{attached}")
+                out.append(f"  {bytes[1]} = ptrtoint ptr {bytes[0]} to {self.size}{attached}")
+                line = f"  {it[1]} = call ptr @__lower_room_take({self.size} {bytes[1]}){attached}"
+            elif line.startswith("  ret "):
+                out.append("  call void @__lower_room_back(ptr %room.start)" + "".join(re.findall(r", !dbg !\d+$", line)))
+            out.append(line)
+        self.used |= {f"ptr @__lower_room_take({self.size})", "ptr @__lower_room_mark()", "void @__lower_room_back(ptr)"}
+        at = 2 if LABEL.match(out[1]) else 1
+        return out[:at] + ["  %room.start = call ptr @__lower_room_mark()" + self.place(body)] + out[at:]
+
+    def place(self, body):
+        """A place in the source for what is new: some line's of the function."""
+        return next((it[0] for it in (re.search(r", !dbg !\d+$", line) for line in body[1:]) if it), "")
+
+    def line(self, line):
         if "extractvalue" in line:
             return self.extracted(line)
         if " asm " in line:
@@ -53,7 +78,7 @@ class Lowering:
         if not call.name:
             return [line]
         if call.name.startswith("llvm."):
-            made = self.intrinsic(at, call, line)
+            made = self.intrinsic(call, line)
         else:
             made = self.copying(call)
         if made is None:
@@ -117,7 +142,7 @@ class Lowering:
         self.count += 1
         return f"%{word}.lowered.{self.count}"
 
-    def intrinsic(self, at, call, line):
+    def intrinsic(self, call, line):
         """The lines in place of a call of an intrinsic, or None where it stays."""
         name = call.name
         if name.startswith(DROPPED) or name == "llvm.assume":
@@ -132,9 +157,9 @@ class Lowering:
             return [f"{call.result} = {BITS[word]} i1 {values[0][1]}, {values[1][1]}"]
         if word == "bswap" and kind == "i8":
             return [f"{call.result} = freeze {kind} {values[0][1]}"]
-        return self.other(at, call, values)
+        return self.other(call, values)
 
-    def other(self, at, call, values):
+    def other(self, call, values):
         name = call.name
         if name in ("llvm.trap", "llvm.debugtrap", "llvm.ubsantrap"):
             self.used.add("void @abort()")
@@ -151,9 +176,9 @@ class Lowering:
             number, kept = self.fresh("number"), self.fresh("kept")
             return [f"{number} = ptrtoint ptr {values[0][1]} to {kind}", f"{kept} = and {kind} {number}, {mask}", f"{call.result} = inttoptr {kind} {kept} to ptr"]
         if name.startswith("llvm.stacksave"):
-            return [f"{call.result} = inttoptr {self.size} 0 to ptr"]
-        if name.startswith("llvm.stackrestore") and at not in self.circle:
-            return []
+            return [f"{call.result} = " + ("call ptr @__lower_room_mark()" if self.is_by_blocks else f"inttoptr {self.size} 0 to ptr")]
+        if name.startswith("llvm.stackrestore"):
+            return [f"call void @__lower_room_back(ptr {values[0][1]})"] if self.is_by_blocks else []
         it = re.match(r"llvm\.(memcpy|memset)\.inline\.(.*)$", name)
         if it:
             whole = f"llvm.{it[1]}.{it[2]}"
