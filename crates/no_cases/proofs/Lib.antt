@@ -1,2 +1,3 @@
 mod Absent
 mod Kept
+mod Sample

@@ -13,6 +13,8 @@ mod heap;
 #[cfg(test)]
 mod layouts;
 #[cfg(test)]
+mod machine;
+#[cfg(test)]
 mod operators;
 #[cfg(test)]
 mod pages;
