@@ -43,12 +43,10 @@ def program():
 
 
 def by_program(text, given=b""):
-    """What the program makes of a module, or nothing where it doesn't run it. A run that doesn't end by itself has its last line in
+    """What the program makes of a module, or nothing where there is none. A run that doesn't end by itself has its last line in
     the place of a status."""
     if not program():
         return None
     output, status, said = run([program(), "local", text, "--steps", str(MOST_STEPS)], given)
     last = (said.strip().split("\n") or [""])[-1].removeprefix("nativeoff: ")
-    if last == "bad module read 2 at 0":
-        return None
     return output, status if last == f"exited {status}" else last

@@ -1,135 +1,385 @@
--- A job writes what its run writes.
-use Rattle.std.proofs.Common.{◌≡◌, ℕ, ◌+◌, ◌-◌, ◌≤◌, List, [], ◌++◌, length, take, refl, sym, ap, subst, ◌∙◌, append_assoc, append-nil, add_assoc, add-zero, length-append, Option, Some, arith}
+-- A job writes what the run writes, as far as it comes.
+use Rattle.std.proofs.Common.{◌≡◌, ℕ, zero, suc, ◌+◌, ◌-◌, ◌≤◌, Bool, true, false, true≢false, List, [], ◌∷◌, ◌++◌, length, take, refl, sym, ap, subst, ◌∙◌, append_assoc, append-nil, length-append, add-zero, Option, Some, None, option_map, arith}
+use Rattle.std.specs.Prelude.{IfSome, Vec}
+use Rattle.std.specs.declared.alloc.Global.{Global}
 use Rattle.std.proofs.lemmas.List.{take-append-le}
-use Rattle.std.proofs.Math.Seq.{take-append-add, take-append_seam}
+use Rattle.std.proofs.lemmas.Option.{none-some, same_Some}
+use Rattle.std.proofs.Math.Seq.{take-append-add}
 use Rattle.no_ports.specs.Meanings.{Rose, Adds, AddsPrefix}
 use Rattle.no_ports.proofs.Adding.{adds_then, adds_nothing}
 use Rattle.no_ir.specs.declared.ending.End.{End}
 use Rattle.no_ir.specs.declared.function.Role.{Role}
-use Rattle.no_ir.specs.declared.function.Role.TheVariants.{Source, Part}
-use Rattle.no_pages.specs.Table.{byte_of, regions_of}
-use Rattle.no_machine.specs.Counted.{Counted, counted}
-use Rattle.no_machine.specs.Running.{Does, count_of, budget_of, end_of}
+use Rattle.no_ir.specs.declared.function.Role.TheVariants.{Source}
+use Rattle.no_lib.specs.declared.env.Env.{Env}
+use Rattle.no_pages.specs.Table.{held_of, regions_of}
+use Rattle.no_whole_machine.specs.Counted.{Counted, counted}
+use Rattle.no_whole_machine.specs.Running.{HasNoMeaning, IsFor, Stays, budget_of, count_of, end_of, memory_of, state_of}
+use Rattle.no_whole_machine.specs.Running as machine
+use Rattle.no_whole_machine.specs.declared.machine.StepAnswer.{StepAnswer}
+use Rattle.no_whole_machine.specs.declared.machine.StepAnswer.TheVariants as answer
 use Rattle.no_semantics.specs.Accepted.{Accepted}
-use Rattle.no_semantics.specs.Run.{Ran, ended, following}
-use Rattle.no_app.specs.Jobs.{Local, rest, report_alone}
+use Rattle.no_semantics.specs.Acting.{step}
+use Rattle.no_semantics.specs.First.{program_of}
+use Rattle.no_semantics.specs.Rows.{Next, Goes, Leaves, Ends, Stuck}
+use Rattle.no_semantics.specs.Runs as runs
+use Rattle.no_semantics.specs.Runs.{Finish, Returned, Ended, Ran, IsRun, Runs, Whole, finished, ran_by, ran_of, resumed, within, whole_by}
+use Rattle.no_semantics.specs.States.{State}
+use Rattle.no_semantics.specs.Steps.{Steps}
+use Rattle.no_semantics.specs.Values.{Program}
+use Rattle.no_semantics.proofs.Running.{mapped, runs_resume, runs_split, steps_compose}
+use Rattle.no_app.specs.Jobs.{Local, AreBytes, TellsBytes, IsAtStart, IsRunnable, IsFed, GoesOn, OnInput, OnRun, RanSo, report_alone}
+use Rattle.no_app.specs.declared.job.JobEnd.{JobEnd}
+use Rattle.no_app.specs.declared.job.JobEnd.TheVariants as job
+use Rattle.no_app.specs.declared.report.Report.{Report}
+use Rattle.no_app.proofs.Ways.{IsOnWay, IsUnder, RanBy, MayGoOn, own_steps, same_bytes, plain_went, under_on, under_start}
 
-pub following_twice : (xs ys : List ℕ) (m n : ℕ) (r : Ran) → following xs m (following ys n r) ≡ following (xs ++ ys) (m + n) r
-following_twice xs ys m n r = rw (append_assoc xs ys r.output, add_assoc m n r.count) refl
+-- what is read of a source so far, where it tells what it has left
+abbrev pub HasRead : Option (List ℕ) → Option (List ℕ) → Bool → List ℕ → Type 0
+HasRead left left' ended read = IfSome left (λ l. (rest : List ℕ) × (l ≡ read ++ rest) × (left' ≡ Some rest) × (ended ≡ true → rest ≡ []))
 
--- a machine that is some way into a run, of which all bytes so far were written
-pub record So (a : Accepted) (whole : Ran) (budget : ℕ) (r : Local) (before now : Option (List ℕ)) : Type 0 where
-  pub bytes : List ℕ
-  pub ran : whole ≡ following bytes (count_of r) (rest a r)
-  pub wrote : Adds before now bytes
-  pub within : count_of r ≤ budget_of r
-  pub limit : budget_of r ≡ budget
+-- A job's machine between two slices: some bytes of the input were read, and some of the output was given.
+pub record So (a : Accepted) (budget : ℕ) (left left' before now : Option (List ℕ)) (m : Local) (env : Env) : Type 0 where
+  pub read : List ℕ
+  pub are_bytes : AreBytes read
+  pub reads : HasRead left left' env.ended read
+  pub flushed : List ℕ
+  pub under : IsUnder a budget read flushed m env
+  pub wrote : Adds before now flushed
 
-pub so_start : (a : Accepted) (whole : Ran) (budget : ℕ) (r : Local) (held : Option (List ℕ))
-    → rest a r ≡ whole → count_of r ≡ 0 → budget_of r ≡ budget → So a whole budget r held held
-so_start a whole budget r held is none limit = record {
-  bytes = [];
-  ran = sym is ∙ zeroed (rest a r) ∙ ap (λ (k : ℕ). following [] k (rest a r)) (sym none);
+-- ---- the beginning
+
+has_read_none : (left : Option (List ℕ)) (ended : Bool) → ended ≡ false → HasRead left left ended []
+has_read_none None ended open_end = tt
+has_read_none (Some l) ended open_end = (l, refl, refl, λ e. absurd (true≢false (sym e ∙ open_end)))
+
+pub so_start : (a : Accepted) (budget : ℕ) (left held : Option (List ℕ)) (m : Local) (env : Env) → IsAtStart a budget m → env.input ≡ [] → env.output.items ≡ [] → env.ended ≡ false
+    → So a budget left left held held m env
+so_start a budget left held m env start no_input no_output open_end = record {
+  read = [];
+  are_bytes = tt;
+  reads = has_read_none left env.ended open_end;
+  flushed = [];
+  under = under_start a budget m env start no_input no_output;
   wrote = adds_nothing held;
-  within = rw none (omega arith);
-  limit = limit;
 }
-  where
-    zeroed : (q : Ran) → q ≡ following [] 0 q
-    zeroed q = ap (λ (k : ℕ). record { output = q.output; count = k; end = q.end }) (omega arith)
 
--- more work, and its bytes written
-pub so_more : (a : Accepted) (whole : Ran) (budget : ℕ) (r r' : Local) (before now after : Option (List ℕ)) (held buffer : List ℕ)
-    → So a whole budget r before now → held ≡ [] → Does regions_of byte_of a r r' held buffer → Adds now after buffer → So a whole budget r' before after
-so_more a whole budget r r' before now after held buffer so empty does wrote =
-    let buffer_is : buffer ≡ does.bytes = rw empty at does.wrote in
-    let all : count_of r + (count_of r' - count_of r) ≡ count_of r' = omega (arith, does.later) in
+-- ---- it goes on
+
+pub so_run : (a : Accepted) (budget limit : ℕ) (left left' before now : Option (List ℕ)) (told : StepAnswer) (m m' : Local) (env env' : Env)
+    → So a budget left left' before now m env → MayGoOn told → RanBy a limit told m m' env env'
+    → Stays regions_of held_of m m' → count_of m' ≤ budget_of m' → IsFor a m' → So a budget left left' before now m' env'
+so_run a budget limit left left' before now told m m' env env' so may ran stays within made =
+    let w = plain_went a budget limit told m m' env env' so.read so.flushed so.under may ran in
     record {
-      bytes = so.bytes ++ does.bytes;
-      ran = so.ran ∙ ap (following so.bytes (count_of r)) does.ran ∙ following_twice so.bytes does.bytes (count_of r) (count_of r' - count_of r) (rest a r')
-          ∙ ap (λ (k : ℕ). following (so.bytes ++ does.bytes) k (rest a r')) all;
-      wrote = adds_then before now after so.bytes does.bytes so.wrote (subst (λ (b : List ℕ). Adds now after b) buffer_is wrote);
-      within = does.within;
-      limit = does.budget ∙ so.limit;
+      read = so.read;
+      are_bytes = so.are_bytes;
+      reads = subst (λ (e : Bool). HasRead left left' e so.read) (sym w.0.same_end) so.reads;
+      flushed = so.flushed;
+      under = under_on a budget limit told m m' env env' so.read so.flushed so.under may ran stays within made;
+      wrote = so.wrote;
     }
 
--- what was written is a prefix of what the run writes
-pub prefix_of : (xs ys zs : List ℕ) (n : ℕ) → n ≤ length ys → take (length xs + n) (xs ++ (ys ++ zs)) ≡ xs ++ take n ys
+-- the output was given, and it is empty again
+abbrev pub emptied : Env → Vec ℕ Global → Env
+emptied env output = record { input = env.input; ended = env.ended; output = output }
+
+pub so_flush : (a : Accepted) (budget : ℕ) (left left' before now after : Option (List ℕ)) (m : Local) (env : Env) (output : Vec ℕ Global)
+    → So a budget left left' before now m env → output.items ≡ [] → Adds now after env.output.items → So a budget left left' before after m (emptied env output)
+so_flush a budget left left' before now after m env output so none given = record {
+  read = so.read;
+  are_bytes = so.are_bytes;
+  reads = so.reads;
+  flushed = so.flushed ++ env.output.items;
+  under = record {
+    way = λ more closed. subst (IsOnWay a m (so.read ++ more) (env.input ++ more)) (sym (ap (λ (x : List ℕ). (so.flushed ++ env.output.items) ++ x) none ∙ append-nil (so.flushed ++ env.output.items))) (so.under.way more closed);
+    stands = so.under.stands;
+  };
+  wrote = adds_then before now after so.flushed env.output.items so.wrote given;
+}
+
+has_read_more : (left left' left'' : Option (List ℕ)) (ended ended' : Bool) (read bytes : List ℕ) → HasRead left left' ended read
+    → IfSome left' (λ l. (rest : List ℕ) × (l ≡ bytes ++ rest) × (left'' ≡ Some rest) × (ended' ≡ true → rest ≡ [])) → HasRead left left'' ended' (read ++ bytes)
+has_read_more None left' left'' ended ended' read bytes reads moved = tt
+has_read_more (Some l) left' left'' ended ended' read bytes reads moved =
+    let m = subst (λ (o : Option (List ℕ)). IfSome o (λ l. (rest : List ℕ) × (l ≡ bytes ++ rest) × (left'' ≡ Some rest) × (ended' ≡ true → rest ≡ []))) reads.2 moved in
+    (m.0, reads.1 ∙ ap (λ (x : List ℕ). read ++ x) m.1 ∙ sym (append_assoc read bytes m.0), m.2, m.3)
+
+pub each_append : (xs ys : List ℕ) → AreBytes xs → AreBytes ys → AreBytes (xs ++ ys)
+each_append [] ys p q = q
+each_append (x ∷ xs) ys p q = (p.0, each_append xs ys p.1 q)
+
+pub so_fed : (a : Accepted) (budget : ℕ) (left left' left'' before now : Option (List ℕ)) (m : Local) (env env' : Env)
+    → So a budget left left' before now m env → env.ended ≡ false → IsFed left' left'' env env' → So a budget left left'' before now m env'
+so_fed a budget left left' left'' before now m env env' so open_end fed = record {
+  read = so.read ++ fed.bytes;
+  are_bytes = each_append so.read fed.bytes so.are_bytes fed.are_bytes;
+  reads = has_read_more left left' left'' env.ended env'.ended so.read fed.bytes so.reads fed.moved;
+  flushed = so.flushed;
+  under = record {
+    way = λ more closed.
+        subst (λ (given : List ℕ). IsOnWay a m given (env'.input ++ more) (so.flushed ++ env'.output.items)) (sym (append_assoc so.read fed.bytes more))
+        (subst (λ (x : List ℕ). IsOnWay a m (so.read ++ (fed.bytes ++ more)) x (so.flushed ++ env'.output.items)) (sym (ap (λ (x : List ℕ). x ++ more) fed.input ∙ append_assoc env.input fed.bytes more))
+        (subst (λ (x : List ℕ). IsOnWay a m (so.read ++ (fed.bytes ++ more)) (env.input ++ (fed.bytes ++ more)) (so.flushed ++ x)) (sym fed.output)
+        (so.under.way (fed.bytes ++ more) (λ e. absurd (true≢false (sym e ∙ open_end))))));
+    stands = so.under.stands;
+  };
+  wrote = so.wrote;
+}
+
+-- ---- some input
+
+pub on_input : (left left' : Option (List ℕ)) (ended : Bool) (read : List ℕ) (P : List ℕ → Type 0) → TellsBytes left → AreBytes read → HasRead left left' ended read
+    → ((more : List ℕ) → (ended ≡ true → more ≡ []) → AreBytes (read ++ more) → P (read ++ more)) → OnInput left P
+on_input None left' ended read P tells are reads holds =
+    let all = subst AreBytes (sym (append-nil read)) are in
+    record { given = read ++ []; are_bytes = all; is = tt; so = holds [] (λ e. refl) all }
+on_input (Some l) left' ended read P tells are reads holds =
+    let all = subst AreBytes reads.1 tells in
+    record { given = read ++ reads.0; are_bytes = all; is = sym reads.1; so = holds reads.0 reads.3 all }
+
+-- where nothing is known yet
+pub any_input : (left : Option (List ℕ)) (P : List ℕ → Type 0) → TellsBytes left → ((given : List ℕ) → AreBytes given → P given) → OnInput left P
+any_input None P tells holds = record { given = []; are_bytes = tt; is = tt; so = holds [] tt }
+any_input (Some l) P tells holds = record { given = l; are_bytes = tells; is = refl; so = holds l tells }
+
+-- ---- what was done is a part of the run
+
+pub record IsPart (bytes : List ℕ) (count : ℕ) (ran : Ran) : Type 0 where
+  pub rest : Whole
+  pub output : ran.output ≡ bytes ++ rest.output
+  pub counted : ran.count ≡ count + rest.count
+
+pub run_part : (a : Accepted) (budget : ℕ) (m : Local) (given left bytes : List ℕ) (ran : Ran) → IsOnWay a m given left bytes → count_of m ≤ budget → IsRun a given budget ran
+    → IsPart bytes (count_of m) ran
+run_part a budget m given left bytes ran way le run =
+    let begin_is : run.begin ≡ way.begin = same_Some run.begin way.begin (sym run.begins ∙ way.begins) in
+    let split = runs_split (program_of a) budget way.begin (state_of m way.whole left) bytes (count_of m) run.whole way.steps le
+    (subst (λ (s : State). Runs (program_of a) budget s run.whole) begin_is run.runs) in
+    let whole = mapped (ran_by run.whole.output run.whole.count) (runs.end_of run.whole.finish) ran run.is in
+    record {
+      rest = split.0;
+      output = ap (λ (r : Ran). r.output) (sym whole.2) ∙ ap (λ (w : Whole). w.output) split.2;
+      counted = ap (λ (r : Ran). r.count) (sym whole.2) ∙ ap (λ (w : Whole). w.count) split.2;
+    }
+
+prefix_of : (xs ys zs : List ℕ) (n : ℕ) → n ≤ length ys → take (length xs + n) (xs ++ (ys ++ zs)) ≡ xs ++ take n ys
 prefix_of xs ys zs n h = take-append-add xs (ys ++ zs) n ∙ ap (λ (l : List ℕ). xs ++ l) (take-append-le n ys zs h)
 
-pub so_prefix : (a : Accepted) (whole : Ran) (budget : ℕ) (r r' : Local) (before now after : Option (List ℕ)) (held buffer : List ℕ)
-    → So a whole budget r before now → held ≡ [] → Does regions_of byte_of a r r' held buffer → AddsPrefix now after buffer → AddsPrefix before after whole.output
-so_prefix a whole budget r r' before now after held buffer so empty does wrote =
-    let buffer_is : buffer ≡ does.bytes = rw empty at does.wrote in
-    let n : ℕ = wrote.0 in
-    let more : List ℕ = (rest a r').output in
-    let output : whole.output ≡ so.bytes ++ (does.bytes ++ more) = ap (λ (q : Ran). q.output) (so.ran ∙ ap (following so.bytes (count_of r)) does.ran) in
-    let small : n ≤ length does.bytes = subst (λ (b : List ℕ). n ≤ length b) buffer_is wrote.1 in
-    let piece : Adds now after (take n does.bytes) = subst (λ (b : List ℕ). Adds now after (take n b)) buffer_is wrote.2 in
-    let all : Adds before after (so.bytes ++ take n does.bytes) = adds_then before now after so.bytes (take n does.bytes) so.wrote piece in (
-      length so.bytes + n,
-      rw (output, length-append, length-append) (omega (arith, small)),
-      subst (λ (o : List ℕ). Adds before after (take (length so.bytes + n) o)) (sym output)
-          (subst (λ (o : List ℕ). Adds before after o) (sym (prefix_of so.bytes does.bytes more n small)) all),
-    )
+adds_part : (before now after : Option (List ℕ)) (xs ys zs : List ℕ) → Adds before now xs → AddsPrefix now after ys → AddsPrefix before after ((xs ++ ys) ++ zs)
+adds_part before now after xs ys zs wrote some = (
+  length xs + some.0,
+  rw (length-append, length-append) (omega (arith, some.1)),
+  subst (λ (x : List ℕ). Adds before after x)
+      (sym (ap (take (length xs + some.0)) (append_assoc xs ys zs) ∙ prefix_of xs ys zs some.0 some.1))
+      (adds_then before now after xs (take some.0 ys) wrote some.2),
+)
 
--- all was written so far
-pub so_so_far : (a : Accepted) (whole : Ran) (budget : ℕ) (r : Local) (before now : Option (List ℕ)) → So a whole budget r before now → AddsPrefix before now whole.output
-so_so_far a whole budget r before now so =
-    let more : List ℕ = (rest a r).output in
-    let output : whole.output ≡ so.bytes ++ more = ap (λ (q : Ran). q.output) so.ran in (
-      length so.bytes,
-      rw (output, length-append) (omega arith),
-      subst (λ (o : List ℕ). Adds before now (take (length so.bytes) o)) (sym output)
-          (subst (λ (o : List ℕ). Adds before now o) (sym (take-append_seam so.bytes more)) so.wrote),
-    )
+-- nothing is given
+pub adds_none : (held : Option (List ℕ)) (bytes : List ℕ) → AddsPrefix held held bytes
+adds_none held bytes = (0, omega arith, adds_nothing held)
 
--- the run is over
-pub so_whole : (a : Accepted) (whole : Ran) (budget : ℕ) (r : Local) (before now : Option (List ℕ)) (e : End) → So a whole budget r before now → end_of r ≡ Some e
-    → (bytes : List ℕ) × (whole ≡ record { output = bytes; count = count_of r; end = e }) × Adds before now bytes
-so_whole a whole budget r before now e so over =
-    let last : rest a r ≡ ended e = rw over refl in (
-      so.bytes,
-      so.ran ∙ ap (following so.bytes (count_of r)) last ∙ plainly so.bytes,
-      so.wrote,
-    )
-  where
-    plainly : (xs : List ℕ) → following xs (count_of r) (ended e) ≡ record { output = xs; count = count_of r; end = e }
-    plainly xs = rw (append-nil xs, add-zero (count_of r)) refl
+-- a job that stopped before the run's end
+abbrev pub IsShort : JobEnd → Type 0
+IsShort (job.Ended e report) = ⊥
+IsShort job.ReadFault = Unit {0}
+IsShort job.WriteFault = Unit {0}
+IsShort job.NoMemory = Unit {0}
 
-pub so_end : (a : Accepted) (whole : Ran) (budget : ℕ) (r : Local) (before now : Option (List ℕ)) (e : End) → So a whole budget r before now → end_of r ≡ Some e
-    → (e ≡ whole.end) × (report_alone (count_of r) ≡ report_alone whole.count) × Adds before now whole.output
-so_end a whole budget r before now e so over =
-    let all = so_whole a whole budget r before now e so over in (
-      ap (λ (q : Ran). q.end) (sym all.1),
-      ap (λ (q : Ran). report_alone q.count) (sym all.1),
-      subst (λ (q : Ran). Adds before now q.output) (sym all.1) all.2,
-    )
+short_so : (end : JobEnd) (old new : Option (List ℕ)) (s s' : Counted) (ran : Ran) → IsShort end → AddsPrefix old new ran.output → s'.part ≡ s.part → s.source ≤ s'.source → s'.source ≤ s.source + ran.count
+    → RanSo end old new s s' ran
+short_so (job.Ended e report) old new s s' ran short wrote part rises most = absurd short
+short_so job.ReadFault old new s s' ran short wrote part rises most = record { is = wrote; counts = (part, rises, most) }
+short_so job.WriteFault old new s s' ran short wrote part rises most = record { is = wrote; counts = (part, rises, most) }
+short_so job.NoMemory old new s s' ran short wrote part rises most = record { is = wrote; counts = (part, rises, most) }
 
--- what was counted so far is part of the run's count
-pub so_counted : (a : Accepted) (whole : Ran) (budget : ℕ) (r : Local) (before now : Option (List ℕ)) → So a whole budget r before now → count_of r ≤ whole.count
-so_counted a whole budget r before now so = rw so.ran (omega arith)
+-- a machine that did so much has counted so much
+abbrev pub HasCounted : Counted → Counted → Local → Type 0
+HasCounted s s' m = s' ≡ record { source = s.source + count_of m; part = s.part }
+
+pub so_short : (a : Accepted) (budget : ℕ) (left left' before now after : Option (List ℕ)) (m : Local) (env : Env) (end : JobEnd) (s s' : Counted)
+    → So a budget left left' before now m env → IsRunnable a → TellsBytes left → IsShort end → AddsPrefix now after env.output.items → HasCounted s s' m
+    → OnInput left (λ given. OnRun a given budget (RanSo end before after s s'))
+so_short a budget left left' before now after m env end s s' so runnable tells short given counts =
+    on_input left left' env.ended so.read (λ given. OnRun a given budget (RanSo end before after s s')) tells so.are_bytes so.reads (λ more closed are.
+    let run = runnable.runs (so.read ++ more) are budget in
+    let part = run_part a budget m (so.read ++ more) (env.input ++ more) (so.flushed ++ env.output.items) run.0 (so.under.way more closed) (rw (sym so.under.stands.limit) so.under.stands.within) run.1 in
+    record {
+      ran = run.0;
+      runs = run.1;
+      so = short_so end before after s s' run.0 short
+          (subst (λ (o : List ℕ). AddsPrefix before after o) (sym part.output) (adds_part before now after so.flushed env.output.items part.rest.output so.wrote given))
+          (ap (λ (c : Counted). c.part) counts)
+          (rw counts (omega arith))
+          (rw (counts, part.counted) (omega arith));
+    })
+
+-- a job that did not begin
+pub no_job : (a : Accepted) (budget : ℕ) (left held : Option (List ℕ)) (s : Counted) → IsRunnable a → TellsBytes left → OnInput left (λ given. OnRun a given budget (RanSo job.NoMemory held held s s))
+no_job a budget left held s runnable tells =
+    any_input left (λ given. OnRun a given budget (RanSo job.NoMemory held held s s)) tells (λ given are.
+    let run = runnable.runs given are budget in
+    record { ran = run.0; runs = run.1; so = short_so job.NoMemory held held s s run.0 tt (adds_none held run.0.output) refl (omega arith) (omega arith) })
+
+-- ---- the run is over
+
+same_ran : (o u : List ℕ) (c d : ℕ) (e : End) → o ≡ u → c ≡ d → ran_by o c e ≡ ran_by u d e
+same_ran o u c d e p q = ap (λ (x : List ℕ). ran_by x c e) p ∙ ap (λ (x : ℕ). ran_by u x e) q
+
+over : (a : Accepted) (budget limit : ℕ) (e : End) (m m' : Local) (env env' : Env) (read flushed more : List ℕ) → IsUnder a budget read flushed m env → RanBy a limit (answer.Ended e) m m' env env'
+    → (env.ended ≡ true → more ≡ []) → IsRun a (read ++ more) budget (ran_by (flushed ++ env'.output.items) (count_of m') e)
+over a budget limit e m m' env env' read flushed more under ran closed =
+    let way = under.way more closed in
+    let run = ran way.whole more way.agrees closed in
+    let there = run.stops.0 in
+    let end = run.stops.1 in
+    let p : Program = machine.program_of regions_of a m in
+    let cost : ℕ = (step p (budget_of m - count_of m - run.cost) run.state).cost in
+    let last : Whole = record { output = run.bytes; count = run.cost + cost; finish = end.finish; state = run.state } in
+    let left_is : budget_of m - count_of m ≡ budget - count_of m = ap (λ (n : ℕ). n - count_of m) under.stands.limit in
+    let s : State = state_of m way.whole (env.input ++ more) in
+    let rest : Runs (program_of a) (budget - count_of m) s last =
+    subst (λ (q : Program). Runs q (budget - count_of m) s last) under.stands.same_program (subst (λ (n : ℕ). Runs p n s last) left_is end.runs) in
+    record {
+      begin = way.begin;
+      begins = way.begins;
+      whole = resumed (flushed ++ env.output.items) (count_of m) last;
+      runs = runs_resume (program_of a) budget way.begin s (flushed ++ env.output.items) (count_of m) last way.steps (rw (sym under.stands.limit) under.stands.within) rest;
+      is = ap (option_map (ran_by ((flushed ++ env.output.items) ++ run.bytes) (count_of m + (run.cost + cost)))) end.ends
+          ∙ ap Some (same_ran ((flushed ++ env.output.items) ++ run.bytes) (flushed ++ env'.output.items) (count_of m + (run.cost + cost)) (count_of m') e
+          (same_bytes flushed env.output.items run.bytes env'.output.items there.wrote) (sym end.counted));
+    }
+
+pub so_ended : (a : Accepted) (budget limit : ℕ) (left left' before now after : Option (List ℕ)) (e : End) (report : Report) (m m' : Local) (env env' : Env) (s s' : Counted)
+    → So a budget left left' before now m env → TellsBytes left → RanBy a limit (answer.Ended e) m m' env env' → Adds now after env'.output.items
+    → report ≡ report_alone (count_of m') → HasCounted s s' m' → OnInput left (λ given. OnRun a given budget (RanSo (job.Ended e report) before after s s'))
+so_ended a budget limit left left' before now after e report m m' env env' s s' so tells ran given told counts =
+    on_input left left' env.ended so.read (λ given. OnRun a given budget (RanSo (job.Ended e report) before after s s')) tells so.are_bytes so.reads (λ more closed are. record {
+      ran = ran_by (so.flushed ++ env'.output.items) (count_of m') e;
+      runs = over a budget limit e m m' env env' so.read so.flushed more so.under ran closed;
+      so = record { is = (refl, told, adds_then before now after so.flushed env'.output.items so.wrote given); counts = counts };
+    })
+
+-- ---- what has no meaning is not there
+
+gives_nothing : (cost : ℕ) (next : Next) (s : State) (rest : State → Option Whole) (w : Whole) → HasNoMeaning next → whole_by cost next s rest ≡ Some w → w.finish ≡ Returned None
+gives_nothing cost (Goes bytes call t) s rest w none e = absurd none
+gives_nothing cost (Leaves (Some n)) s rest w none e = absurd none
+gives_nothing cost (Leaves None) s rest w none e = ap (λ (v : Whole). v.finish) (sym (same_Some (finished cost (Returned None) s) w e))
+gives_nothing cost (Ends end) s rest w none e = absurd none
+gives_nothing cost Stuck s rest w none e = absurd (none-some w e)
+
+no_finish : (p : Program) (n left : ℕ) (s : State) (w : Whole) → HasNoMeaning (step p left s).next → within p n left s ≡ Some w → w.finish ≡ Returned None
+no_finish p zero left s w none e = absurd (none-some w e)
+no_finish p (suc n) left s w none e = gives_nothing (step p left s).cost (step p left s).next s (within p n (left - (step p left s).cost)) w none e
+
+no_run : (p : Program) (left count : ℕ) (s t : State) (bytes : List ℕ) (w : Whole) → Steps p s bytes count t → count ≤ left → Runs p left s w → HasNoMeaning (step p (left - count) t).next → w.finish ≡ Returned None
+no_run p left count s t bytes w steps le runs none =
+    let rest = runs_split p left s t bytes count w steps le runs in
+    ap (λ (x : Whole). x.finish) rest.2 ∙ no_finish p rest.1.0 (left - count) t rest.0 none rest.1.1
+
+no_answer : (w : Whole) (ran : Ran) → w.finish ≡ Returned None → ran_of w ≡ Some ran → ⊥
+no_answer w ran finish is = none-some ran (sym (ap (λ (f : Finish). option_map (ran_by w.output w.count) (runs.end_of f)) finish) ∙ is)
+
+pub so_never_stuck : (a : Accepted) (budget limit : ℕ) (left left' before now : Option (List ℕ)) (m m' : Local) (env env' : Env)
+    → So a budget left left' before now m env → IsRunnable a → RanBy a limit answer.Stuck m m' env env' → ⊥
+so_never_stuck a budget limit left left' before now m m' env env' so runnable ran =
+    let way = so.under.way [] (λ e. refl) in
+    let run = ran way.whole [] way.agrees (λ e. refl) in
+    let whole = runnable.runs (so.read ++ []) (subst AreBytes (sym (append-nil so.read)) so.are_bytes) budget in
+    let p : Program = machine.program_of regions_of a m in
+    let le : count_of m + run.cost ≤ budget = omega (arith, run.afforded, so.under.stands.limit, so.under.stands.within) in
+    let left_is : budget_of m - count_of m - run.cost ≡ budget - (count_of m + run.cost) = omega (arith, so.under.stands.limit) in
+    let steps = steps_compose (program_of a) way.begin (state_of m way.whole (env.input ++ [])) run.state (so.flushed ++ env.output.items) run.bytes (count_of m) run.cost way.steps
+    (own_steps a m (state_of m way.whole (env.input ++ [])) run.state run.bytes run.cost so.under.stands.same_program run.steps) in
+    let begin_is : whole.1.begin ≡ way.begin = same_Some whole.1.begin way.begin (sym whole.1.begins ∙ way.begins) in
+    let none : HasNoMeaning (step (program_of a) (budget - (count_of m + run.cost)) run.state).next =
+    subst (λ (q : Program). HasNoMeaning (step q (budget - (count_of m + run.cost)) run.state).next) so.under.stands.same_program
+    (subst (λ (n : ℕ). HasNoMeaning (step p n run.state).next) left_is run.stops) in
+    no_answer whole.1.whole whole.0
+    (no_run (program_of a) budget (count_of m + run.cost) way.begin run.state ((so.flushed ++ env.output.items) ++ run.bytes) whole.1.whole steps le
+    (subst (λ (s : State). Runs (program_of a) budget s whole.1.whole) begin_is whole.1.runs) none)
+    whole.1.is
+
+-- ---- counts
+
+-- what was counted does not fall
+pub run_later : (a : Accepted) (budget limit : ℕ) (told : StepAnswer) (m m' : Local) (env env' : Env) (read flushed : List ℕ) → IsUnder a budget read flushed m env → MayGoOn told
+    → RanBy a limit told m m' env env' → count_of m ≤ count_of m'
+run_later a budget limit told m m' env env' read flushed under may ran =
+    let w = plain_went a budget limit told m m' env env' read flushed under may ran in
+    rw w.1.counted (omega arith)
+
+pub end_later : (a : Accepted) (budget limit : ℕ) (e : End) (m m' : Local) (env env' : Env) (read flushed : List ℕ) → IsUnder a budget read flushed m env
+    → RanBy a limit (answer.Ended e) m m' env env' → count_of m ≤ count_of m'
+end_later a budget limit e m m' env env' read flushed under ran =
+    let way = under.way [] (λ e. refl) in
+    let run = ran way.whole [] way.agrees (λ e. refl) in
+    rw run.stops.1.counted (omega arith)
 
 pub rose_later : (a b c : ℕ) → a ≤ b → Rose b c → Rose a c
 rose_later a b c le rose = omega arith
 
 -- more was counted of a source
-pub counts_more : (role : Role) (s₀ s s' : Counted) (n n' : ℕ) → role ≡ Source → n ≤ n' → s ≡ record { source = s₀.source + n; part = s₀.part }
-    → s' ≡ counted role (n' - n) s → s' ≡ record { source = s₀.source + n'; part = s₀.part }
-counts_more role s₀ s s' n n' is le e e' =
-    let sum : s₀.source + n + (n' - n) ≡ s₀.source + n' = omega arith in
-    e' ∙ ap (λ (q : Role). counted q (n' - n) s) is
-    ∙ ap (λ (t : Counted). record { source = t.source + (n' - n); part = t.part }) e ∙ ap (λ (k : ℕ). record { source = k; part = s₀.part }) sum
+pub counts_more : (role : Role) (s₀ s s' : Counted) (m m' : Local) → role ≡ Source → count_of m ≤ count_of m' → HasCounted s₀ s m
+    → s' ≡ counted role (count_of m' - count_of m) s → HasCounted s₀ s' m'
+counts_more role s₀ s s' m m' is le e e' =
+    let sum : s₀.source + count_of m + (count_of m' - count_of m) ≡ s₀.source + count_of m' = omega (arith, le) in
+    e' ∙ ap (λ (q : Role). counted q (count_of m' - count_of m) s) is
+    ∙ ap (λ (t : Counted). record { source = t.source + (count_of m' - count_of m); part = t.part }) e ∙ ap (λ (k : ℕ). record { source = k; part = s₀.part }) sum
 
-pub counts_start : (s : Counted) (n : ℕ) → n ≡ 0 → s ≡ record { source = s.source + n; part = s.part }
-counts_start s n none = ap (λ (k : ℕ). record { source = k; part = s.part }) (sym (add-zero s.source) ∙ ap (λ (k : ℕ). s.source + k) (sym none))
+pub counts_start : (s : Counted) (m : Local) → count_of m ≡ 0 → HasCounted s s m
+counts_start s m none = ap (λ (k : ℕ). record { source = k; part = s.part }) (sym (add-zero s.source) ∙ ap (λ (k : ℕ). s.source + k) (sym none))
 
--- the same, counted on twice
-pub counted_twice : (role : Role) (s₀ s s' : Counted) (n m k : ℕ) → s ≡ counted role (m - n) s₀ → s' ≡ counted role (k - m) s → n ≤ m → m ≤ k
-    → s' ≡ counted role (k - n) s₀
-counted_twice Source s₀ s s' n m k e e' le le' =
-    let sum : s₀.source + (m - n) + (k - m) ≡ s₀.source + (k - n) = omega arith in
-    e' ∙ ap (counted Source (k - m)) e ∙ ap (λ (j : ℕ). record { source = j; part = s₀.part }) sum
-counted_twice Part s₀ s s' n m k e e' le le' =
-    let sum : s₀.part + (m - n) + (k - m) ≡ s₀.part + (k - n) = omega arith in
-    e' ∙ ap (counted Part (k - m)) e ∙ ap (λ (j : ℕ). record { source = s₀.source; part = j }) sum
+-- ---- the output fails after a slice, however that stopped
+
+pub so_cut : (a : Accepted) (budget limit : ℕ) (left left' before now after : Option (List ℕ)) (told : StepAnswer) (m m' : Local) (env env' : Env) (end : JobEnd) (s s' s'' : Counted)
+    → So a budget left left' before now m env → IsRunnable a → TellsBytes left → RanBy a limit told m m' env env' → Stays regions_of held_of m m' → count_of m' ≤ budget_of m' → IsFor a m'
+    → IsShort end → AddsPrefix now after env'.output.items → HasCounted s s' m → s'' ≡ counted a.role (count_of m' - count_of m) s'
+    → OnInput left (λ given. OnRun a given budget (RanSo end before after s s''))
+so_cut a budget limit left left' before now after told m m' env env' end s s' s'' so runnable tells ran stays within made short given counts counts' = by told ran
+  where
+    goes : (x : StepAnswer) → MayGoOn x → RanBy a limit x m m' env env' → OnInput left (λ given. OnRun a given budget (RanSo end before after s s''))
+    goes x may r =
+        so_short a budget left left' before now after m' env' end s s'' (so_run a budget limit left left' before now x m m' env env' so may r stays within made) runnable tells short given
+        (counts_more a.role s s' s'' m m' runnable.role (run_later a budget limit x m m' env env' so.read so.flushed so.under may r) counts counts')
+
+    ends : (e : End) → RanBy a limit (answer.Ended e) m m' env env' → OnInput left (λ given. OnRun a given budget (RanSo end before after s s''))
+    ends e r =
+        let all = counts_more a.role s s' s'' m m' runnable.role (end_later a budget limit e m m' env env' so.read so.flushed so.under r) counts counts' in
+        on_input left left' env.ended so.read (λ given. OnRun a given budget (RanSo end before after s s'')) tells so.are_bytes so.reads (λ more closed are. record {
+          ran = ran_by (so.flushed ++ env'.output.items) (count_of m') e;
+          runs = over a budget limit e m m' env env' so.read so.flushed more so.under r closed;
+          so = short_so end before after s s'' (ran_by (so.flushed ++ env'.output.items) (count_of m') e) short
+              (subst (λ (o : List ℕ). AddsPrefix before after o) (append-nil (so.flushed ++ env'.output.items)) (adds_part before now after so.flushed env'.output.items [] so.wrote given))
+              (ap (λ (c : Counted). c.part) all)
+              (rw all (omega arith))
+              (rw all (omega arith));
+        })
+
+    by : (x : StepAnswer) → RanBy a limit x m m' env env' → OnInput left (λ given. OnRun a given budget (RanSo end before after s s''))
+    by answer.Stepped r = goes answer.Stepped tt r
+    by (answer.WantPage page) r = goes (answer.WantPage page) tt r
+    by answer.WantInput r = goes answer.WantInput tt r
+    by answer.NoMemory r = goes answer.NoMemory tt r
+    by (answer.Ended e) r = ends e r
+    by answer.Stuck r = absurd (so_never_stuck a budget limit left left' before now m m' env env' so runnable r)
+
+-- ---- the input
+
+-- the source goes on
+pub read_on : (left left' : Option (List ℕ)) (ended : Bool) (read : List ℕ) → HasRead left left' ended read → GoesOn left left'
+read_on None left' ended read reads = tt
+read_on (Some l) left' ended read reads = (read, reads.0, reads.1, reads.2)
+
+pub goes_on_twice : (left left' left'' : Option (List ℕ)) → GoesOn left left' → GoesOn left' left'' → GoesOn left left''
+goes_on_twice None left' left'' a b = tt
+goes_on_twice (Some l) left' left'' a b =
+    let c = subst (λ (o : Option (List ℕ)). GoesOn o left'') a.3 b in
+    (a.0 ++ c.0, c.1, a.2 ∙ ap (λ (x : List ℕ). a.0 ++ x) c.2 ∙ sym (append_assoc a.0 c.0 c.1), c.3)
+
+-- the input is open where it is wanted
+pub want_open : (a : Accepted) (budget limit : ℕ) (left left' before now : Option (List ℕ)) (m m' : Local) (env env' : Env) → So a budget left left' before now m env
+    → RanBy a limit answer.WantInput m m' env env' → env'.ended ≡ false
+want_open a budget limit left left' before now m m' env env' so ran =
+    let way = so.under.way [] (λ e. refl) in
+    (ran way.whole [] way.agrees (λ e. refl)).stops.3

@@ -4,7 +4,7 @@ use Rattle.std.proofs.Math.Seq.{take-length}
 use Rattle.no_ports.specs.Meanings.{Adds, AddsPrefix}
 use Rattle.no_app.specs.declared.outcome.Outcome.{Outcome}
 use Rattle.no_app.specs.declared.outcome.Outcome.TheVariants as outcome
-use Rattle.no_app.specs.Outcomes.{line_of, Around, Says, Tells, Concludes, Becomes}
+use Rattle.no_app.specs.Outcomes.{line_of, Around, Says, Tells, Concludes, Becomes, IsRefusal}
 
 pub adds_all : (old new : Option (List ℕ)) (bytes : List ℕ) → Adds old new bytes → AddsPrefix old new bytes
 adds_all old new bytes all = (length bytes, omega arith, subst (λ (b : List ℕ). Adds old new b) (sym (take-length bytes)) all)
@@ -18,6 +18,7 @@ tells_whole outcome.NoMemory a old new errs errs' says all = (outcome.NoMemory, 
 tells_whole outcome.Usage a old new errs errs' says all = all
 tells_whole (outcome.FileFault name) a old new errs errs' says all = all
 tells_whole (outcome.BadModule fault) a old new errs errs' says all = all
+tells_whole outcome.ReadFault a old new errs errs' says all = all
 tells_whole outcome.WriteFault a old new errs errs' says all = inl all
 
 -- what is told of the outcome that the call reached
@@ -35,9 +36,16 @@ concludes_same outcome.NoMemory a errs errs' says = says
 concludes_same outcome.Usage a errs errs' says = says
 concludes_same (outcome.FileFault name) a errs errs' says = says
 concludes_same (outcome.BadModule fault) a errs errs' says = says
+concludes_same outcome.ReadFault a errs errs' says = says
 concludes_same outcome.WriteFault a errs errs' says = inl says
 
 pub concludes : (o o' : Outcome) (a : Around) (old new : Option (List ℕ)) (errs errs' : ℕ) → Says o a → Becomes o o' old new errs errs' → Concludes o' a errs errs'
 concludes o o' a old new errs errs' says (inl (same, all)) = rw same (concludes_same o a errs errs' says)
 concludes o o' a old new errs errs' says (inr (inl (fault, rose, some))) = rw fault (inr rose)
 concludes o o' a old new errs errs' says (inr (inr (want, some))) = rw want tt
+
+-- a refusal is the outcome that the call reached
+pub refused_so : (o o' : Outcome) (old new : Option (List ℕ)) (errs errs' : ℕ) → Becomes o o' old new errs errs' → IsRefusal o' → IsRefusal o
+refused_so o o' old new errs errs' (inl (same, all)) refusal = subst IsRefusal same refusal
+refused_so o o' old new errs errs' (inr (inl (fault, rose, some))) refusal = absurd (subst IsRefusal fault refusal)
+refused_so o o' old new errs errs' (inr (inr (want, some))) refusal = absurd (subst IsRefusal want refusal)

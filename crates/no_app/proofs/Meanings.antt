@@ -1,7 +1,10 @@
 -- What is loaded is what a text means, and it means one thing at most.
-use Rattle.std.proofs.Common.{◌≡◌, ℕ, List, refl, sym, subst, ◌∙◌, Result, Ok, Err, inl, inr}
+use Rattle.std.proofs.Common.{◌≡◌, ℕ, List, refl, sym, ap, subst, ◌∙◌, Result, Ok, Err, inl, inr}
 use Rattle.no_ir.specs.declared.function.Module.{Module}
+use Rattle.no_ir.specs.declared.function.Role.{Role}
 use Rattle.no_ir.specs.declared.function.Role.TheVariants.{Source}
+use Rattle.no_layout.specs.declared.extent.Extent.{Extent}
+use Rattle.no_layout.specs.declared.layout.Layout.{Layout}
 use Rattle.no_lex.specs.declared.fault.LexError.{LexError}
 use Rattle.no_lex.specs.declared.fault.LexError.TheVariants as lexing
 use Rattle.no_lex.specs.declared.fault.LexFault.{LexFault}
@@ -14,11 +17,11 @@ use Rattle.no_lex.specs.Tokens.{Lexes}
 use Rattle.no_read.specs.declared.fault.ReadFault.{ReadFault}
 use Rattle.no_read.specs.Reading.{Reads}
 use Rattle.no_semantics.specs.Accepted.{Accepted}
-use Rattle.no_verify.specs.Verdict.{IsVerdict}
+use Rattle.no_verify.specs.Verdict.{IsAccepted, IsVerdict}
 use Rattle.no_verify.specs.declared.fault.VerifyError.{VerifyError}
 use Rattle.no_verify.specs.declared.fault.VerifyError.TheVariants as verifying
 use Rattle.no_verify.proofs.Unique.{verdict_once}
-use Rattle.no_app.specs.Programs.{Loads, Means, MeansModule, MeansRead, MeansTokens, MeansVerdict, run_by_machine, text_limit, unaccepted, unlexed, unread}
+use Rattle.no_app.specs.Programs.{Loads, Means, MeansModule, MeansRead, MeansTokens, MeansVerdict, text_limit, unaccepted, unlexed, unread}
 use Rattle.no_app.specs.declared.loading.Refused.{Refused}
 use Rattle.no_app.specs.declared.loading.Refused.TheVariants as refused
 use Rattle.no_app.specs.declared.outcome.ModuleFault.{ModuleFault}
@@ -51,12 +54,20 @@ means_once m v x y is p other = elim (verdict_once m Source v other.verdict is o
   ]
 ]
 
-pub accepted_loads : (m : Module) (a : Accepted) (r : Result Accepted Refused) → IsVerdict m Source (Ok a) → Loads r (λ x. x ≡ run_by_machine a) → Loads r (MeansModule m)
-accepted_loads m a r is = loads_so (λ x. x ≡ run_by_machine a) (MeansModule m) (λ x e. record { verdict = Ok a; judged_so = is; means = e }) r
+-- the parts of an accepted module
+pub parts_are : (a : Accepted) (m : Module) (l : Layout) (sizes : List Extent) (role : Role) → m ≡ a.«module» → l ≡ a.layout → sizes ≡ a.sizes → role ≡ a.role
+    → record { «module» = m; layout = l; sizes = sizes; role = role } ≡ a
+parts_are a m l sizes role p q s t =
+    ap (λ (x : Module). let z : Accepted = record { «module» = x; layout = l; sizes = sizes; role = role } in z) p
+    ∙ ap (λ (x : Layout). let z : Accepted = record { «module» = a.«module»; layout = x; sizes = sizes; role = role } in z) q
+    ∙ ap (λ (x : List Extent). let z : Accepted = record { «module» = a.«module»; layout = a.layout; sizes = x; role = role } in z) s
+    ∙ ap (λ (x : Role). let z : Accepted = record { «module» = a.«module»; layout = a.layout; sizes = a.sizes; role = x } in z) t
 
-pub accepted_only : (m : Module) (a : Accepted) (r : Result Accepted Refused) → IsVerdict m Source (Ok a) → Loads r (λ x. x ≡ run_by_machine a)
-    → (answer : Answer) → MeansModule m answer → Loads r (λ x. x ≡ answer)
-accepted_only m a r is loads answer means = loads_so (λ x. x ≡ run_by_machine a) (λ x. x ≡ answer) (λ x e. means_once m (Ok a) x answer is e means) r loads
+pub accepted_loads : (m : Module) (a s : Accepted) → IsVerdict m Source (Ok a) → s ≡ a → Loads (Ok s) (MeansModule m)
+accepted_loads m a s is same = record { verdict = Ok a; judged_so = is; means = ap Ok same }
+
+pub accepted_only : (m : Module) (a s : Accepted) → IsVerdict m Source (Ok a) → s ≡ a → (answer : Answer) → MeansModule m answer → Loads (Ok s) (λ x. x ≡ answer)
+accepted_only m a s is same answer means = means_once m (Ok a) (Ok s) answer is (ap Ok same) means
 
 pub unaccepted_loads : (m : Module) (e : VerifyError) → IsVerdict m Source (Err e) → Loads (Err (unaccepted e)) (MeansModule m)
 unaccepted_loads m verifying.NoMemory is = tt
@@ -111,3 +122,26 @@ pub unlexed_only : (text : List ℕ) (e : LexError)
     → (answer : Answer) → Means text answer → Loads (Err (unlexed e)) (λ x. x ≡ answer)
 unlexed_only text lexing.NoMemory only answer means = tt
 unlexed_only text (lexing.Fault fault) only answer means = sym (text_means text (Err fault) answer only means)
+
+-- ---- what a text means as a program is accepted
+
+abbrev program_or : Accepted → Answer → Accepted
+program_or other (Ok a) = a
+program_or other (Err fault) = other
+
+accepted_verdict : (m : Module) (v : Result Accepted VerifyError) (p : Accepted) → IsVerdict m Source v → MeansVerdict v (Ok p) → IsAccepted m Source p
+accepted_verdict m (Ok a) p is means = subst (IsAccepted m Source) (ap (program_or a) (sym means)) is
+accepted_verdict m (Err (verifying.Layout fault)) p is means = absurd cc
+accepted_verdict m (Err (verifying.Fault fault)) p is means = absurd cc
+accepted_verdict m (Err verifying.NoMemory) p is means = absurd means
+
+accepted_read : (m : Result Module ReadFault) (p : Accepted) → MeansRead m (Ok p) → (x : Module) × IsAccepted x Source p
+accepted_read (Ok m) p means = (m, accepted_verdict m means.verdict p means.judged_so means.means)
+accepted_read (Err fault) p means = absurd cc
+
+accepted_tokens : (text : List ℕ) (lexed : Result (List Token) LexFault) (p : Accepted) → MeansTokens text lexed (Ok p) → (x : Module) × IsAccepted x Source p
+accepted_tokens text (Ok tokens) p means = accepted_read means.0 p means.2
+accepted_tokens text (Err fault) p means = absurd cc
+
+pub means_accepted : (text : List ℕ) (p : Accepted) → Means text (Ok p) → (m : Module) × IsAccepted m Source p
+means_accepted text p means = accepted_tokens text means.lexed p means.means

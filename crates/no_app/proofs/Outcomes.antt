@@ -5,10 +5,11 @@ use Rattle.std.proofs.lemmas.List.{take_all, length-take-le}
 use Rattle.std.proofs.lemmas.Bool.{cases_Bool, leb-true, leb-false}
 use Rattle.no_ports.specs.Meanings.{Rose, Adds}
 use Rattle.no_ports.proofs.Adding.{adds_nothing}
+use Rattle.no_ir.specs.declared.ending.End.{End}
 use Rattle.no_ir.specs.declared.ending.End.TheVariants as end
 use Rattle.no_app.specs.declared.outcome.ModuleFault.{ModuleFault}
 use Rattle.no_semantics.specs.Accepted.{Accepted}
-use Rattle.no_semantics.specs.Run.{Ran, run}
+use Rattle.no_semantics.specs.Runs.{Ran}
 use Rattle.no_app.specs.Programs.{Means, MeansTokens, Loads, text_limit}
 use Rattle.no_app.specs.declared.loading.Refused.{Refused}
 use Rattle.no_app.specs.declared.loading.Refused.TheVariants as refused
@@ -16,49 +17,94 @@ use Rattle.no_lex.specs.declared.fault.LexFault.{LexFault}
 use Rattle.no_lex.specs.declared.token.Token.{Token}
 use Rattle.no_lex.specs.Tokens.{Lexes}
 use Rattle.no_app.specs.Words.{Asked}
-use Rattle.no_app.specs.Jobs.{IsRunOf, Counts, input_of}
-use Rattle.no_app.specs.Outcomes.{Flow, Around, Idle, RanWhole, RanPart, RunsText, RunsPart, RunsTo, WritesText, OnTold, Says, WritesPart, outcome_of, outcome_of_job, outcome_refused}
+use Rattle.no_app.specs.Jobs.{AreBytes, GoesOn, OnInput, OnRun, RanSo, TellsBytes}
+use Rattle.no_app.specs.Outcomes.{Flow, Around, Idle, RanPart, RunsAs, RunsText, RunsPart, RunsTo, WritesText, OnTold, IsRefusal, Says, WritesPart, outcome_of, outcome_of_job, outcome_refused}
 use Rattle.no_app.specs.declared.job.JobEnd.{JobEnd}
 use Rattle.no_app.specs.declared.job.JobEnd.TheVariants as job
 use Rattle.no_app.specs.declared.outcome.Outcome.{Outcome}
 use Rattle.no_app.specs.declared.outcome.Outcome.TheVariants as outcome
+use Rattle.no_app.specs.declared.report.Report.{Report}
+use Rattle.no_app.proofs.Jobs.{any_input}
 use Rattle.no_app.proofs.LastLines.{adds_all}
+use Rattle.no_app.proofs.Meanings.{means_accepted}
+use Rattle.no_app.proofs.Runnable.{runnable}
+
+-- ---- inputs
+
+-- what follows from a fact of some input
+pub input_more : (P Q : List ℕ → Type 0) (left : Option (List ℕ)) → ((given : List ℕ) → AreBytes given → P given → Q given) → OnInput left P → OnInput left Q
+input_more P Q left more on = record { given = on.given; are_bytes = on.are_bytes; is = on.is; so = more on.given on.are_bytes on.so }
+
+-- a source that nothing was taken from
+pub goes_on_same : (left : Option (List ℕ)) → GoesOn left left
+goes_on_same None = tt
+goes_on_same (Some l) = ([], l, refl, refl)
+
+-- ---- a run of a text
 
 -- a job that ended wrote and counted a part of its run
-pub job_part : (e : JobEnd) (f : Flow) (ran : Ran) → IsRunOf e ran f.held f.held' → Counts e ran.count f.counted f.counted' → RanPart f ran
-job_part (job.Ended e report) f ran is counts =
-    record { wrote = adds_all _ _ _ is.2; part = rw counts refl; rises = rw counts (omega arith); within = rw counts (omega arith) }
-job_part job.WriteFault f ran is counts = record { wrote = is; part = counts.0; rises = counts.1; within = counts.2 }
-job_part job.NoMemory f ran is counts = record { wrote = is; part = counts.0; rises = counts.1; within = counts.2 }
+job_part : (e : JobEnd) (f : Flow) (ran : Ran) → RanSo e f.held f.held' f.counted f.counted' ran → RanPart f ran
+job_part (job.Ended e report) f ran so =
+    record { wrote = adds_all _ _ _ so.is.2; part = rw (so.counts) refl; rises = rw (so.counts) (omega arith); within = rw (so.counts) (omega arith) }
+job_part job.ReadFault f ran so = record { wrote = so.is; part = so.counts.0; rises = so.counts.1; within = so.counts.2 }
+job_part job.WriteFault f ran so = record { wrote = so.is; part = so.counts.0; rises = so.counts.1; within = so.counts.2 }
+job_part job.NoMemory f ran so = record { wrote = so.is; part = so.counts.0; rises = so.counts.1; within = so.counts.2 }
+
+-- what a job says of its run
+abbrev pub JobRan : JobEnd → Flow → List ℕ → ℕ → Accepted → Type 0
+JobRan e f given steps p = OnRun p given steps (RanSo e f.held f.held' f.counted f.counted')
+
+ended : (e : End) (report : Report) (f : Flow) (given : List ℕ) (steps : ℕ) (text : List ℕ) (p : Accepted) → Means text (Ok p) → JobRan (job.Ended e report) f given steps p
+    → RunsAs (outcome_of e) f given steps text
+ended e report f given steps text p means on = (
+  p,
+  means,
+  record { ran = on.ran; runs = on.runs; so = record { ended = ap outcome_of on.so.is.0; wrote = on.so.is.2; counts = on.so.counts } },
+)
 
 -- the outcome of a job is that of its run
-pub job_ran : (e : JobEnd) (f : Flow) (input : List ℕ) (steps : ℕ) (text : List ℕ) (p : Accepted) → Means text (Ok p) → IsRunOf e (run p input steps) f.held f.held'
-    → Counts e (run p input steps).count f.counted f.counted' → (e ≡ job.WriteFault → Rose f.outs f.outs') → RunsText (outcome_of_job e) f input steps text
-job_ran (job.Ended (end.Exited c) report) f input steps text p means is counts fault = (p, means, record { ended = ap outcome_of is.0; wrote = is.2; counts = counts })
-job_ran (job.Ended (end.Trapped t) report) f input steps text p means is counts fault = (p, means, record { ended = ap outcome_of is.0; wrote = is.2; counts = counts })
-job_ran (job.Ended end.Unfinished report) f input steps text p means is counts fault = (p, means, record { ended = ap outcome_of is.0; wrote = is.2; counts = counts })
-job_ran job.WriteFault f input steps text p means is counts fault = fault refl
-job_ran job.NoMemory f input steps text p means is counts fault = tt
+pub job_ran : (e : JobEnd) (f : Flow) (given : List ℕ) (steps : ℕ) (text : List ℕ) (p : Accepted) → Means text (Ok p) → JobRan e f given steps p
+    → (e ≡ job.ReadFault → Rose f.ins f.ins') → (e ≡ job.WriteFault → Rose f.outs f.outs') → RunsText (outcome_of_job e) f given steps text
+job_ran (job.Ended (end.Exited c) report) f given steps text p means on read fault = ended (end.Exited c) report f given steps text p means on
+job_ran (job.Ended (end.Trapped t) report) f given steps text p means on read fault = ended (end.Trapped t) report f given steps text p means on
+job_ran (job.Ended end.Unfinished report) f given steps text p means on read fault = ended end.Unfinished report f given steps text p means on
+job_ran job.ReadFault f given steps text p means on read fault = read refl
+job_ran job.WriteFault f given steps text p means on read fault = fault refl
+job_ran job.NoMemory f given steps text p means on read fault = tt
+
+-- a job is no refusal
+pub no_refusal : (e : JobEnd) → IsRefusal (outcome_of_job e) → ⊥
+no_refusal (job.Ended (end.Exited c) report) refusal = refusal
+no_refusal (job.Ended (end.Trapped t) report) refusal = refusal
+no_refusal (job.Ended end.Unfinished report) refusal = refusal
+no_refusal job.ReadFault refusal = refusal
+no_refusal job.WriteFault refusal = refusal
+no_refusal job.NoMemory refusal = refusal
 
 -- ---- whatever comes of a text, a part of its run was written
 
--- nothing is a part
-pub idle_part : (f : Flow) (input : List ℕ) (steps : ℕ) (text : List ℕ) → Idle f → WritesText f input steps text
-idle_part f input steps text idle (Err fault) means = idle
-idle_part f input steps text idle (Ok p) means = record {
+idle_so : (f : Flow) (ran : Ran) → Idle f → RanPart f ran
+idle_so f ran idle = record {
   wrote = (0, omega arith, subst (λ (held : Option (List ℕ)). Adds f.held held []) (sym idle.wrote) (adds_nothing f.held));
   part = rw (idle.counts) refl;
   rises = rw (idle.counts) (omega arith);
   within = rw (idle.counts) (omega arith);
 }
 
-okay : Accepted → Result Accepted ModuleFault
-okay p = Ok p
+-- nothing is a part
+pub idle_part : (f : Flow) (given : List ℕ) (steps : ℕ) (text : List ℕ) → AreBytes given → Idle f → WritesText f given steps text
+idle_part f given steps text are idle (Err fault) means = idle
+idle_part f given steps text are idle (Ok p) means =
+    let is = means_accepted text p means in
+    let run = (runnable is.0 p is.1).runs given are steps in
+    record { ran = run.0; runs = run.1; so = idle_so f run.0 idle }
 
 -- what was loaded is all that the text means
-pub ran_part : (f : Flow) (input : List ℕ) (steps : ℕ) (text : List ℕ) (p : Accepted) → ((found : Result Accepted ModuleFault) → Means text found → Ok p ≡ found)
-    → RanPart f (run p input steps) → WritesText f input steps text
-ran_part f input steps text p only part found means = subst (λ (x : Result Accepted ModuleFault). RunsPart f input steps x) (only found means) part
+pub ran_part : (e : JobEnd) (f : Flow) (given : List ℕ) (steps : ℕ) (text : List ℕ) (p : Accepted) → ((found : Result Accepted ModuleFault) → Means text found → Ok p ≡ found)
+    → JobRan e f given steps p → WritesText f given steps text
+ran_part e f given steps text p only on found means =
+    let part : OnRun p given steps (RanPart f) = record { ran = on.ran; runs = on.runs; so = job_part e f on.ran on.so } in
+    subst (λ (x : Result Accepted ModuleFault). RunsPart f given steps x) (only found means) part
 
 -- ---- a file's first bytes, one more than the longest text, mean what the file means
 
@@ -100,65 +146,51 @@ pub told_text : (P : List ℕ → Type 0) (contents : Option (List ℕ)) (text :
 told_text P None text holds whole p = (text, tt, p)
 told_text P (Some bytes) text holds whole p = (bytes, refl, whole bytes holds p)
 
--- a fact of what is left of an input, and of nothing where that isn't told
-pub told_input : (P : List ℕ → Type 0) (left : Option (List ℕ)) → P (input_of left) → OnTold left P
-told_input P None p = ([], tt, p)
-told_input P (Some bytes) p = (bytes, refl, p)
-
 -- a text that gives no program has written nothing
-pub refused_ran : (r : Refused) (f : Flow) (left : Option (List ℕ)) (steps : ℕ) (text : List ℕ) → Loads (Err r) (Means text) → Idle f
-    → OnTold left (λ given. RunsText (outcome_refused r) f given steps text)
-refused_ran (refused.Bad fault) f left steps text loads idle = told_input (λ given. RunsText (outcome.BadModule fault) f given steps text) left (loads, idle)
-refused_ran refused.NoMemory f left steps text loads idle = told_input (λ given. RunsText outcome.NoMemory f given steps text) left tt
+pub refused_ran : (r : Refused) (f : Flow) (left : Option (List ℕ)) (steps : ℕ) (text : List ℕ) → TellsBytes left → Loads (Err r) (Means text) → Idle f
+    → OnInput left (λ given. RunsText (outcome_refused r) f given steps text)
+refused_ran (refused.Bad fault) f left steps text tells loads idle = any_input left (λ given. RunsText (outcome.BadModule fault) f given steps text) tells (λ given are. (loads, idle))
+refused_ran refused.NoMemory f left steps text tells loads idle = any_input left (λ given. RunsText outcome.NoMemory f given steps text) tells (λ given are. tt)
 
--- what follows from a fact
-pub told_more : (P Q : List ℕ → Type 0) (told : Option (List ℕ)) → ((bytes : List ℕ) → P bytes → Q bytes) → OnTold told P → OnTold told Q
-told_more P Q told more x = (x.0, x.1, more x.0 x.2)
+pub refused_part : (f : Flow) (left : Option (List ℕ)) (steps : ℕ) (text : List ℕ) → TellsBytes left → Idle f → OnInput left (λ given. WritesText f given steps text)
+refused_part f left steps text tells idle = any_input left (λ given. WritesText f given steps text) tells (λ given are. idle_part f given steps text are idle)
 
 -- ---- the outcome of a text is that of its file
 
-abbrev pub OnRun : (Accepted → Type 0) → List ℕ → Type 0
-OnRun P text = (p : Accepted) × Means text (Ok p) × P p
-
--- the run of a text on some input
-abbrev pub Ran_so : Outcome → Around → ℕ → List ℕ → List ℕ → Type 0
-Ran_so o a steps text given = OnRun (λ p. RanWhole o a.flow (run p given steps)) text
-
-run_whole : (o : Outcome) (a : Around) (steps : ℕ) (text bytes : List ℕ) → text ≡ take 16777217 bytes → OnTold a.input (Ran_so o a steps text) → OnTold a.input (Ran_so o a steps bytes)
-run_whole o a steps text bytes e r =
-    told_more (Ran_so o a steps text) (Ran_so o a steps bytes) a.input (λ given x. (x.0, (means_cut text bytes e (Ok x.0)).0 x.1, x.2)) r
+run_whole : (o : Outcome) (f : Flow) (left : Option (List ℕ)) (steps : ℕ) (text bytes : List ℕ) → text ≡ take 16777217 bytes → OnInput left (λ given. RunsAs o f given steps text)
+    → OnInput left (λ given. RunsAs o f given steps bytes)
+run_whole o f left steps text bytes e on =
+    input_more (λ given. RunsAs o f given steps text) (λ given. RunsAs o f given steps bytes) left (λ given are x. (x.0, (means_cut text bytes e (Ok x.0)).0 x.1, x.2)) on
 
 runs_to : (o : Outcome) (a : Around) (asked : Asked) (text : List ℕ) → a.job ≡ Some asked → Holds (a.contents asked.file) text
-    → OnTold a.input (Ran_so o a asked.steps text) → RunsTo o a
+    → OnInput a.input (λ given. RunsAs o a.flow given asked.steps text) → RunsTo o a
 runs_to o a asked text job holds r =
-    rw job (told_text (λ t. OnTold a.input (Ran_so o a asked.steps t)) (a.contents asked.file) text holds (run_whole o a asked.steps text) r)
+    rw job (told_text (λ t. OnInput a.input (λ given. RunsAs o a.flow given asked.steps t)) (a.contents asked.file) text holds (run_whole o a.flow a.input asked.steps text) r)
 
 pub says_text : (o : Outcome) (a : Around) (asked : Asked) (text : List ℕ) → a.job ≡ Some asked → Holds (a.contents asked.file) text
-    → OnTold a.input (λ given. RunsText o a.flow given asked.steps text) → Says o a
+    → OnInput a.input (λ given. RunsText o a.flow given asked.steps text) → Says o a
 says_text (outcome.Exited c) a asked text job holds r = runs_to (outcome.Exited c) a asked text job holds r
 says_text (outcome.Trapped t) a asked text job holds r = runs_to (outcome.Trapped t) a asked text job holds r
 says_text outcome.Unfinished a asked text job holds r = runs_to outcome.Unfinished a asked text job holds r
 says_text outcome.NoMemory a asked text job holds r = tt
-says_text outcome.Usage a asked text job holds r = absurd r.2
-says_text (outcome.FileFault name) a asked text job holds r = absurd r.2
+says_text outcome.Usage a asked text job holds r = absurd r.so
+says_text (outcome.FileFault name) a asked text job holds r = absurd r.so
 says_text (outcome.BadModule fault) a asked text job holds r =
-    (rw job (told_text (λ t. Means t (Err fault)) (a.contents asked.file) text holds (λ bytes e. (means_cut text bytes e (Err fault)).0) r.2.0), r.2.1)
-says_text outcome.WriteFault a asked text job holds r = rw job r.2
+    (rw job (told_text (λ t. Means t (Err fault)) (a.contents asked.file) text holds (λ bytes e. (means_cut text bytes e (Err fault)).0) r.so.0), r.so.1)
+says_text outcome.ReadFault a asked text job holds r = rw job r.so
+says_text outcome.WriteFault a asked text job holds r = rw job r.so
 
 -- ---- whatever the outcome, a part of the run was written
 
--- what a text's run on some input writes, as a part
-abbrev pub Part_so : Around → ℕ → List ℕ → List ℕ → Type 0
-Part_so a steps text given = WritesText a.flow given steps text
-
-part_whole : (a : Around) (steps : ℕ) (text bytes : List ℕ) → text ≡ take 16777217 bytes → OnTold a.input (Part_so a steps text) → OnTold a.input (Part_so a steps bytes)
-part_whole a steps text bytes e r =
-    told_more (Part_so a steps text) (Part_so a steps bytes) a.input (λ given x found means. x found ((means_cut text bytes e found).1 means)) r
+part_whole : (f : Flow) (left : Option (List ℕ)) (steps : ℕ) (text bytes : List ℕ) → text ≡ take 16777217 bytes → OnInput left (λ given. WritesText f given steps text)
+    → OnInput left (λ given. WritesText f given steps bytes)
+part_whole f left steps text bytes e on =
+    input_more (λ given. WritesText f given steps text) (λ given. WritesText f given steps bytes) left (λ given are x found means. x found ((means_cut text bytes e found).1 means)) on
 
 pub part_text : (a : Around) (asked : Asked) (job : Option Asked) (text : List ℕ) → job ≡ Some asked → Holds (a.contents asked.file) text
-    → OnTold a.input (Part_so a asked.steps text) → WritesPart a job
+    → OnInput a.input (λ given. WritesText a.flow given asked.steps text) → WritesPart a job
 part_text a asked job text e holds r =
-    rw e (told_text (λ t. OnTold a.input (Part_so a asked.steps t)) (a.contents asked.file) text holds (part_whole a asked.steps text) r)
+    rw e (told_text (λ t. OnInput a.input (λ given. WritesText a.flow given asked.steps t)) (a.contents asked.file) text holds (part_whole a.flow a.input asked.steps text) r)
 
 -- some bytes, which are those that are told
 any_told : (P : List ℕ → Type 0) (told : Option (List ℕ)) → ((bytes : List ℕ) → P bytes) → OnTold told P
@@ -166,7 +198,7 @@ any_told P None all = ([], tt, all [])
 any_told P (Some bytes) all = (bytes, refl, all bytes)
 
 -- nothing is a part of every run
-pub idle_writes : (a : Around) (job : Option Asked) → Idle a.flow → WritesPart a job
-idle_writes a None idle = idle
-idle_writes a (Some asked) idle =
-    any_told (λ t. OnTold a.input (Part_so a asked.steps t)) (a.contents asked.file) (λ text. any_told (Part_so a asked.steps text) a.input (λ given. idle_part a.flow given asked.steps text idle))
+pub idle_writes : (a : Around) (job : Option Asked) → TellsBytes a.input → Idle a.flow → WritesPart a job
+idle_writes a None tells idle = idle
+idle_writes a (Some asked) tells idle =
+    any_told (λ t. OnInput a.input (λ given. WritesText a.flow given asked.steps t)) (a.contents asked.file) (λ text. refused_part a.flow a.input asked.steps text tells idle)

@@ -1,18 +1,64 @@
 -- What a job says of its run.
-use Rattle.std.specs.Prelude.{◌≡◌, ℕ, ◌+◌, ◌≤◌, List, Option, Some, None, unwrap_or, []}
+use Rattle.std.specs.Prelude.{◌≡◌, ℕ, ◌+◌, ◌*◌, ◌-◌, ◌<◌, ◌≤◌, Bool, true, false, not, ◌&&◌, if◌then◌else◌, List, [], ◌++◌, Option, Some, None, IfSome}
 use Rattle.no_ports.specs.Meanings.{Adds, AddsPrefix}
+use Rattle.no_lib.specs.declared.env.Env.{Env}
+use Rattle.no_layout.specs.Memory.{Agrees, AreFormed}
+use Rattle.no_pages.specs.Table.{byte_of, held_of, regions_of}
 use Rattle.no_pages.specs.declared.table.PageTable.{PageTable}
-use Rattle.no_pages.specs.Table.{byte_of, regions_of}
-use Rattle.no_machine.specs.Counted.{Counted}
-use Rattle.no_machine.specs.Running.{rest_of, count_of, budget_of, end_of}
-use Rattle.no_machine.specs.declared.machine.Machine.{Machine}
+use Rattle.no_whole_machine.specs.Counted.{Counted}
+use Rattle.no_whole_machine.specs.Running.{count_of, budget_of}
+use Rattle.no_whole_machine.specs.declared.machine.Machine.{Machine}
+use Rattle.no_image.specs.Fits.{has_image}
+use Rattle.no_ir.specs.declared.function.Role.TheVariants.{Source}
+use Rattle.no_progress.specs.Proper.{Each}
+use Rattle.no_semantics.specs.First.{program_of, first_byte}
+use Rattle.no_semantics.specs.Starts.{main_from, start_of}
+use Rattle.no_whole_machine.specs.Running as machine
+use Rattle.no_whole_machine.specs.Called.{HasNoMarks}
 use Rattle.no_semantics.specs.Accepted.{Accepted}
-use Rattle.no_semantics.specs.Run.{Ran, run}
+use Rattle.no_semantics.specs.Lists.{is_empty}
+use Rattle.no_semantics.specs.Runs.{Ran, IsRun}
 use Rattle.no_app.specs.declared.report.Report.{Report}
+use Rattle.no_app.specs.declared.job.Fed.{Fed}
+use Rattle.no_app.specs.declared.job.Fed.TheVariants as fed
 use Rattle.no_app.specs.declared.job.JobEnd.{JobEnd}
 use Rattle.no_app.specs.declared.job.JobEnd.TheVariants as job
-use Rattle.no_app.specs.declared.job.Worked.{Worked}
-use Rattle.no_app.specs.declared.job.Worked.TheVariants as worked
+
+-- ---- inputs and runs
+
+abbrev pub AreBytes : List ℕ → Type 0
+AreBytes xs = Each (λ (b : ℕ). b < 256) xs
+
+-- what a source tells of what it has left are bytes
+abbrev pub TellsBytes : Option (List ℕ) → Type 0
+TellsBytes left = IfSome left AreBytes
+
+-- a fact of some input, which is the one that the source has left, where that is told
+pub record OnInput (left : Option (List ℕ)) (P : List ℕ → Type 0) : Type 0 where
+  pub given : List ℕ
+  pub are_bytes : AreBytes given
+  pub is : IfSome left (λ l. given ≡ l)
+  pub so : P given
+
+-- a fact of the run of a program on an input within a budget, which there is
+pub record OnRun (a : Accepted) (given : List ℕ) (budget : ℕ) (P : Ran → Type 0) : Type 0 where
+  pub ran : Ran
+  pub runs : IsRun a given budget ran
+  pub so : P ran
+
+-- A source module that runs: it has an image and a main, no instruction of it is free, and on each input it has a run within each budget.
+pub record IsRunnable (a : Accepted) : Type 0 where
+  pub role : a.role ≡ Source
+  pub image : has_image a.«module» a.layout a.sizes ≡ true
+  pub main : (k : ℕ) × (main_from 0 a.«module».functions ≡ Some k)
+  pub marks : HasNoMarks a.«module»
+  pub runs : (given : List ℕ) → AreBytes given → (budget : ℕ) → (ran : Ran) × IsRun a given budget ran
+
+-- a source goes on in its order: where it tells what is left, some first bytes of that may be gone
+abbrev pub GoesOn : Option (List ℕ) → Option (List ℕ) → Type 0
+GoesOn old new = IfSome old (λ l. (taken : List ℕ) × (rest : List ℕ) × (l ≡ taken ++ rest) × (new ≡ Some rest))
+
+-- ---- how a job ends
 
 -- the report of a run on the device alone
 abbrev pub report_alone : ℕ → Report
@@ -32,36 +78,62 @@ report_alone count = record {
 -- the job's end is the run's, and all of its output was written; otherwise a prefix of it
 abbrev pub IsRunOf : JobEnd → Ran → Option (List ℕ) → Option (List ℕ) → Type 0
 IsRunOf (job.Ended e report) ran old new = (e ≡ ran.end) × (report ≡ report_alone ran.count) × Adds old new ran.output
+IsRunOf job.ReadFault ran old new = AddsPrefix old new ran.output
 IsRunOf job.WriteFault ran old new = AddsPrefix old new ran.output
 IsRunOf job.NoMemory ran old new = AddsPrefix old new ran.output
 
 -- the counter's source number rises by the run's count, or by no more where the job stopped before; its part number stays
 abbrev pub Counts : JobEnd → ℕ → Counted → Counted → Type 0
 Counts (job.Ended e report) count old new = new ≡ record { source = old.source + count; part = old.part }
+Counts job.ReadFault count old new = (new.part ≡ old.part) × (old.source ≤ new.source) × (new.source ≤ old.source + count)
 Counts job.WriteFault count old new = (new.part ≡ old.part) × (old.source ≤ new.source) × (new.source ≤ old.source + count)
 Counts job.NoMemory count old new = (new.part ≡ old.part) × (old.source ≤ new.source) × (new.source ≤ old.source + count)
 
--- the input of a run: what the source has left, where it tells
-abbrev pub input_of : Option (List ℕ) → List ℕ
-input_of left = unwrap_or left []
+-- what a job says of the run of its program
+pub record RanSo (end : JobEnd) (old new : Option (List ℕ)) (counted counted' : Counted) (ran : Ran) : Type 0 where
+  pub is : IsRunOf end ran old new
+  pub counts : Counts end ran.count counted counted'
 
 -- ---- a machine over a memory with all its pages
 
 abbrev pub Local : Type 0
 Local = Machine PageTable
 
--- what is left of its run
-abbrev pub rest : Accepted → Local → Ran
-rest a m = rest_of regions_of byte_of a m
+-- its memory has all pages
+pub record HasPages (m : Local) : Type 0 where
+  pub formed : AreFormed (regions_of (machine.memory_of m))
+  pub held : (page : ℕ) → page < 131328 → held_of (machine.memory_of m) page ≡ true
 
--- at the beginning of a run
-pub record IsAtStart (a : Accepted) (input : List ℕ) (budget : ℕ) (m : Local) : Type 0 where
-  pub whole : rest a m ≡ run a input budget
-  pub counted_none : count_of m ≡ 0
+-- at the beginning of its run on every input
+pub record IsAtStart (a : Accepted) (budget : ℕ) (m : Local) : Type 0 where
+  pub starts : (given : List ℕ) → start_of a given ≡ Some (machine.state_of m (first_byte a) given)
+  pub agrees : Agrees (held_of (machine.memory_of m)) (byte_of (machine.memory_of m)) (first_byte a)
+  pub same_program : machine.program_of regions_of a m ≡ program_of a
+  pub made : machine.IsFor a m
+  pub uncounted : count_of m ≡ 0
   pub limit : budget_of m ≡ budget
+  pub goes_on : machine.end_of m ≡ None
+  pub whole : HasPages m
 
--- what a slice of work came to
-abbrev pub Works : Worked → Local → Local → Type 0
-Works worked.Working old new = count_of old + 1 ≤ count_of new
-Works (worked.Ended e) old new = end_of new ≡ Some e
-Works worked.NoMemory old new = Unit {0}
+-- whether the next byte of the input is not there, though there may be one
+abbrev pub is_open : Env → Bool
+is_open env = is_empty env.input && not env.ended
+
+-- what is left to do, of which each slice and each take from the source does some
+abbrev pub work_left : Local → Env → ℕ
+work_left m env = 2 * (budget_of m - count_of m) + (if is_open env then 1 else 0)
+
+-- some first bytes of what the source has left came behind the input; or nothing comes any more
+pub record IsFed (left left' : Option (List ℕ)) (before after : Env) : Type 0 where
+  pub bytes : List ℕ
+  pub are_bytes : AreBytes bytes
+  pub input : after.input ≡ before.input ++ bytes
+  pub output : after.output.items ≡ before.output.items
+  pub closed : is_open after ≡ false
+  pub moved : IfSome left (λ l. (rest : List ℕ) × (l ≡ bytes ++ rest) × (left' ≡ Some rest) × (after.ended ≡ true → rest ≡ []))
+
+-- the same by what the source answered: after a fault it has what it had
+abbrev pub Feeds : Fed → Option (List ℕ) → Option (List ℕ) → Env → Env → Type 0
+Feeds fed.Done left left' before after = IsFed left left' before after
+Feeds fed.Failed left left' before after = GoesOn left left'
+Feeds fed.NoMemory left left' before after = GoesOn left left'

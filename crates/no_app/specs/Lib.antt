@@ -1,4 +1,3 @@
-pub mod Beyond
 pub mod Programs
 pub mod Jobs
 pub mod Words

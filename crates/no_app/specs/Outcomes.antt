@@ -6,9 +6,10 @@ use Rattle.no_ir.specs.declared.ending.End.TheVariants as end
 use Rattle.no_ir.specs.Ending.{trap_number, trap_name}
 use Rattle.no_layout.specs.declared.fault.LayoutKind.{LayoutKind}
 use Rattle.no_layout.specs.declared.fault.LayoutKind.TheVariants as layout
-use Rattle.no_machine.specs.Counted.{Counted}
+use Rattle.no_whole_machine.specs.Counted.{Counted}
 use Rattle.no_semantics.specs.Accepted.{Accepted}
-use Rattle.no_semantics.specs.Run.{Ran, run}
+use Rattle.no_semantics.specs.Runs.{Ran}
+use Rattle.no_app.specs.Jobs.{OnInput, OnRun}
 use Rattle.no_app.specs.Programs.{Means}
 use Rattle.no_app.specs.Words.{Asked}
 use Rattle.no_app.specs.declared.job.JobEnd.{JobEnd}
@@ -36,6 +37,7 @@ status_of outcome.NoMemory = 119
 status_of outcome.Usage = 120
 status_of (outcome.FileFault name) = 121
 status_of (outcome.BadModule fault) = 122
+status_of outcome.ReadFault = 127
 status_of outcome.WriteFault = 118
 
 -- the kind of a fault, and its place in bytes
@@ -74,6 +76,7 @@ words_of outcome.NoMemory = codes "no memory"
 words_of outcome.Usage = codes "the words are not a command's words"
 words_of (outcome.FileFault name) = codes "file fault " ++ name
 words_of (outcome.BadModule fault) = codes "bad module " ++ module_words fault
+words_of outcome.ReadFault = codes "read fault"
 words_of outcome.WriteFault = codes "write fault"
 
 abbrev pub line_of : Outcome → List ℕ
@@ -88,6 +91,7 @@ outcome_of end.Unfinished = outcome.Unfinished
 -- the outcome of a job
 abbrev pub outcome_of_job : JobEnd → Outcome
 outcome_of_job (job.Ended e report) = outcome_of e
+outcome_of_job job.ReadFault = outcome.ReadFault
 outcome_of_job job.WriteFault = outcome.WriteFault
 outcome_of_job job.NoMemory = outcome.NoMemory
 
@@ -98,12 +102,14 @@ outcome_refused refused.NoMemory = outcome.NoMemory
 
 -- ---- when each outcome comes
 
--- before and after a call: what the output holds, what is counted, and the output's count of faults
+-- before and after a call: what the output holds, what is counted, and the counts of faults of input and output
 pub record Flow : Type 0 where
   pub held : Option (List ℕ)
   pub held' : Option (List ℕ)
   pub counted : Counted
   pub counted' : Counted
+  pub ins : ℕ
+  pub ins' : ℕ
   pub outs : ℕ
   pub outs' : ℕ
 
@@ -141,9 +147,13 @@ pub record Idle (f : Flow) : Type 0 where
   pub wrote : f.held' ≡ f.held
   pub counts : f.counted' ≡ f.counted
 
+-- the program that a text means has a run on an input within a budget, and this is what came of it
+abbrev pub RunsAs : Outcome → Flow → List ℕ → ℕ → List ℕ → Type 0
+RunsAs o f input steps text = OnProgram text (λ p. OnRun p input steps (RanWhole o f))
+
 -- the job's file has a text, which means a program, and the input some bytes; the run of the one on the other ended so
 abbrev pub RunsTo : Outcome → Around → Type 0
-RunsTo o a = OnJob a.job (λ asked. OnTold (a.contents asked.file) (λ text. OnTold a.input (λ given. OnProgram text (λ p. RanWhole o a.flow (run p given asked.steps)))))
+RunsTo o a = OnJob a.job (λ asked. OnTold (a.contents asked.file) (λ text. OnInput a.input (λ given. RunsAs o a.flow given asked.steps text)))
 
 -- what each outcome says; the cases exclude each other, so each comes exactly where it says, want of memory aside
 abbrev pub Says : Outcome → Around → Type 0
@@ -154,6 +164,7 @@ Says outcome.NoMemory a = Unit {0}
 Says outcome.Usage a = a.job ≡ None
 Says (outcome.FileFault name) a = OnJob a.job (λ asked. (name ≡ asked.file) × Rose (a.faults asked.file) (a.faults' asked.file)) × Idle a.flow
 Says (outcome.BadModule fault) a = OnJob a.job (λ asked. OnTold (a.contents asked.file) (λ text. Means text (Err fault))) × Idle a.flow
+Says outcome.ReadFault a = OnJob a.job (λ asked. Rose a.flow.ins a.flow.ins')
 Says outcome.WriteFault a = OnJob a.job (λ asked. Rose a.flow.outs a.flow.outs')
 
 -- a prefix of the run's output was written, and no more counted than the run counts
@@ -166,7 +177,7 @@ pub record RanPart (f : Flow) (ran : Ran) : Type 0 where
 -- of the program that a text means, if it means one; otherwise nothing was written and nothing counted
 abbrev pub RunsPart : Flow → List ℕ → ℕ → Result Accepted ModuleFault → Type 0
 RunsPart f input steps (Err fault) = Idle f
-RunsPart f input steps (Ok a) = RanPart f (run a input steps)
+RunsPart f input steps (Ok a) = OnRun a input steps (RanPart f)
 
 abbrev pub WritesText : Flow → List ℕ → ℕ → List ℕ → Type 0
 WritesText f input steps text = (found : Result Accepted ModuleFault) → Means text found → RunsPart f input steps found
@@ -174,20 +185,28 @@ WritesText f input steps text = (found : Result Accepted ModuleFault) → Means 
 -- whatever the outcome: without a job or a program nothing is written, and otherwise a prefix of the run's output
 abbrev pub WritesPart : Around → Option Asked → Type 0
 WritesPart a None = Idle a.flow
-WritesPart a (Some asked) = OnTold (a.contents asked.file) (λ text. OnTold a.input (λ given. WritesText a.flow given asked.steps text))
+WritesPart a (Some asked) = OnTold (a.contents asked.file) (λ text. OnInput a.input (λ given. WritesText a.flow given asked.steps text))
 
 -- ---- the same for a text that was read
 
 -- what each outcome says of a text and a run of it
 abbrev pub RunsText : Outcome → Flow → List ℕ → ℕ → List ℕ → Type 0
-RunsText (outcome.Exited c) f input steps text = OnProgram text (λ p. RanWhole (outcome.Exited c) f (run p input steps))
-RunsText (outcome.Trapped t) f input steps text = OnProgram text (λ p. RanWhole (outcome.Trapped t) f (run p input steps))
-RunsText outcome.Unfinished f input steps text = OnProgram text (λ p. RanWhole outcome.Unfinished f (run p input steps))
+RunsText (outcome.Exited c) f input steps text = RunsAs (outcome.Exited c) f input steps text
+RunsText (outcome.Trapped t) f input steps text = RunsAs (outcome.Trapped t) f input steps text
+RunsText outcome.Unfinished f input steps text = RunsAs outcome.Unfinished f input steps text
 RunsText outcome.NoMemory f input steps text = Unit {0}
 RunsText outcome.Usage f input steps text = ⊥
 RunsText (outcome.FileFault name) f input steps text = ⊥
 RunsText (outcome.BadModule fault) f input steps text = Means text (Err fault) × Idle f
+RunsText outcome.ReadFault f input steps text = Rose f.ins f.ins'
 RunsText outcome.WriteFault f input steps text = Rose f.outs f.outs'
+
+-- the outcomes that come before a run begins
+abbrev pub IsRefusal : Outcome → Type 0
+IsRefusal outcome.Usage = Unit {0}
+IsRefusal (outcome.FileFault name) = Unit {0}
+IsRefusal (outcome.BadModule fault) = Unit {0}
+IsRefusal _ = ⊥
 
 -- the outcome with the stream of the last line beside it, of which these are the counts of faults
 abbrev pub Concludes : Outcome → Around → ℕ → ℕ → Type 0

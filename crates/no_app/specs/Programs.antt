@@ -1,5 +1,5 @@
 -- The program that a text means, or what is wrong with the text (docs/LANGUAGE.md).
-use Rattle.std.specs.Prelude.{◌≡◌, ℕ, List, Option, Some, None, Result, Ok, Err}
+use Rattle.std.specs.Prelude.{◌≡◌, ℕ, List, Result, Ok, Err}
 use Rattle.no_ir.specs.declared.function.Module.{Module}
 use Rattle.no_ir.specs.declared.function.Role.TheVariants.{Source}
 use Rattle.no_lex.specs.declared.fault.LexError.{LexError}
@@ -10,40 +10,26 @@ use Rattle.no_lex.specs.Tokens.{Lexes}
 use Rattle.no_read.specs.declared.fault.ReadError.{ReadError}
 use Rattle.no_read.specs.declared.fault.ReadError.TheVariants as reading
 use Rattle.no_read.specs.declared.fault.ReadFault.{ReadFault}
-use Rattle.no_read.specs.declared.fault.ReadFault.TheVariants as reads
 use Rattle.no_read.specs.Reading.{Reads}
 use Rattle.no_semantics.specs.Accepted.{Accepted}
 use Rattle.no_verify.specs.Verdict.{IsVerdict}
 use Rattle.no_verify.specs.declared.fault.VerifyError.{VerifyError}
 use Rattle.no_verify.specs.declared.fault.VerifyError.TheVariants as verifying
-use Rattle.no_app.specs.Beyond.{first_beyond}
 use Rattle.no_app.specs.declared.loading.Refused.{Refused}
 use Rattle.no_app.specs.declared.loading.Refused.TheVariants as refused
 use Rattle.no_app.specs.declared.outcome.ModuleFault.{ModuleFault}
 use Rattle.no_app.specs.declared.outcome.ModuleFault.TheVariants as modules
 
--- what the machine doesn't do, by the word of an instruction
-abbrev pub left_out : List ℕ → ModuleFault
-left_out word = modules.Read (reads.LeftOut 0 word)
-
 -- ---- a module
-
--- an accepted module, or the word of its first instruction that the machine of today doesn't do
-abbrev pub judged : Option (List ℕ) → Accepted → Result Accepted ModuleFault
-judged (Some word) a = Err (left_out word)
-judged None a = Ok a
-
-abbrev pub run_by_machine : Accepted → Result Accepted ModuleFault
-run_by_machine a = judged (first_beyond a.«module» a.layout a.sizes) a
 
 -- by the verdict, which is one of these
 abbrev pub MeansVerdict : Result Accepted VerifyError → Result Accepted ModuleFault → Type 0
-MeansVerdict (Ok a) found = found ≡ run_by_machine a
+MeansVerdict (Ok a) found = found ≡ Ok a
 MeansVerdict (Err (verifying.Layout fault)) found = found ≡ Err (modules.Layout fault)
 MeansVerdict (Err (verifying.Fault fault)) found = found ≡ Err (modules.Verify fault)
 MeansVerdict (Err verifying.NoMemory) found = ⊥
 
--- what a module means: the verifier judges it as a source, and then the machine of today
+-- what a module means: the verifier judges it as a source
 pub record MeansModule (m : Module) (found : Result Accepted ModuleFault) : Type 0 where
   pub verdict : Result Accepted VerifyError
   pub judged_so : IsVerdict m Source verdict
@@ -64,7 +50,7 @@ abbrev pub MeansTokens : List ℕ → Result (List Token) LexFault → Result Ac
 MeansTokens text (Err fault) found = found ≡ Err (modules.Lex fault)
 MeansTokens text (Ok tokens) found = (m : Result Module ReadFault) × Reads text Source tokens m × MeansRead m found
 
--- what a text means: it parts into tokens, these read to a module, this is accepted, and a machine runs it; or the first fault on this way
+-- what a text means: it parts into tokens, these read to a module, and this is accepted; or the first fault on this way
 pub record Means (text : List ℕ) (found : Result Accepted ModuleFault) : Type 0 where
   pub lexed : Result (List Token) LexFault
   pub lexes : Lexes text_limit text lexed

@@ -1,20 +1,17 @@
-ghost use Rattle.std.specs.Prelude.{ℕ, List, ◌≡◌, ◌-◌, ◌^◌, ◌≤◌, IfOk, true};
-ghost use Rattle.no_pages.specs.Table.{byte_of, regions_of};
-ghost use Rattle.no_image.specs.Fits.{has_image};
+ghost use Rattle.std.specs.Prelude.{◌≡◌, ◌^◌, ◌≤◌, ◌<◌, ◌++◌, IfOk, OnOk, false, length};
 ghost use Rattle.no_ir.specs.declared.function.Role.TheVariants.{Source};
-ghost use Rattle.no_machine.specs.Counted.{counted};
-ghost use Rattle.no_machine.specs.Running.{Does, budget_of, count_of};
 ghost use Rattle.no_ports.specs.Meanings.{Rose};
-ghost use Rattle.no_semantics.specs.Run.{run};
-ghost use Rattle.no_app.specs.Jobs.{Counts, IsAtStart, IsRunOf, Works, input_of, report_alone};
+ghost use Rattle.no_verify.specs.Verdict.{IsAccepted};
+ghost use Rattle.no_app.specs.Jobs.{AreBytes, Feeds, GoesOn, IsAtStart, IsRunnable, OnInput, OnRun, RanSo, TellsBytes, report_alone};
 
 use crate::report::Report;
 use no_image::{image, load};
 use no_ir::{End, NoMemory};
-use no_machine::{Machine, StepAnswer, Steps};
+use no_lib::{Env, Input};
 use no_pages::PageTable;
-use no_ports::{GaveAll, Sink, Source, give_all};
+use no_ports::{GaveAll, Sink, Source, Took, give_all};
 use no_semantics::Sound;
+use no_whole_machine::{Machine, StepAnswer, Steps};
 use std::alloc::Global;
 use std::sync::ledger::Ledger;
 
@@ -23,51 +20,32 @@ use std::sync::ledger::Ledger;
 pub enum JobEnd {
     /// The program ended.
     Ended(End, Report),
+    /// The input failed.
+    ReadFault,
     /// The output did not take a piece.
     WriteFault,
     NoMemory,
 }
 
-/// The most instructions between two looks at the output.
-const SLICE: u64 = 65_536;
-
-/// What a slice of work came to.
+/// What became of a take from the input.
 #[derive(Clone, Copy, Debug, PartialEq, Eq)]
-pub(crate) enum Worked {
-    Working,
-    Ended(End),
+pub(crate) enum Fed {
+    /// There is more, or there is no more to come.
+    Done,
+    Failed,
     NoMemory,
 }
 
-/// Does instructions until so many are done, or the run has ended.
-fn work<L: Ledger>(
-    machine: &mut Machine<PageTable>,
-    sound: &Sound,
-    out: &mut Vec<u8>,
-    steps: &mut Steps<L>,
-) -> Worked
-    requires { count_of machine.old ≤ budget_of machine.old }
-    ensures does { Does regions_of byte_of sound.now machine.old machine.new out.old.items out.new.items }
-    ensures answer { Works result machine.old machine.new }
-    ensures counts { steps.new ≡ counted sound.now.role (count_of machine.new - count_of machine.old) steps.old }
-{
-    for _ in 0..SLICE {
-        match machine.step(sound, out, steps) {
-            StepAnswer::Stepped => {}
-            StepAnswer::Ended(end) => return Worked::Ended(end),
-            // All pages are there, so that none is wanted.
-            StepAnswer::WantPage(_) => return Worked::NoMemory,
-            StepAnswer::NoMemory => return Worked::NoMemory,
-        }
-    }
-    Worked::Working
-}
+/// The most that is counted between two looks at the output.
+const SLICE: u64 = 65_536;
+
+/// The most bytes that are taken from the input at once.
+const PIECE: usize = 4096;
 
 /// A machine at the entry of `main`, over the program's first memory.
 fn booted(alloc: Global, sound: &Sound, budget: u64) -> Result<Machine<PageTable>, NoMemory>
-    requires source { sound.now.role ≡ Source }
-    requires fits { has_image sound.now.«module» sound.now.layout sound.now.sizes ≡ true }
-    ensures { (input : List ℕ) → IfOk result (λ m. IsAtStart sound.now input budget m) }
+    requires { IsRunnable sound.now }
+    ensures { IfOk result (λ m. IsAtStart sound.now budget m) }
 {
     let image = image(alloc, sound)?;
     let memory = load(alloc, &image)?;
@@ -92,8 +70,92 @@ fn alone(count: u64) -> Report
     }
 }
 
-/// Runs a program on the device alone, and gives its output as it comes, after each slice of instructions.
-/// The input is not read, since no instruction asks for it.
+/// Puts a piece behind a program's input.
+fn put(piece: &[u8], env: &mut Env) -> Result<(), NoMemory>
+    ensures put { OnOk result (env.new ≡ record { input = env.old.input ++ piece.now; ended = env.old.ended; output = env.old.output }) }
+    ensures bytes { AreBytes piece.now }
+{
+    env.input.feed(piece)
+}
+
+/// Puts what the source gives next behind a program's input, or ends that.
+fn feed<I: Source>(input: &mut I, piece: &mut [u8], env: &mut Env) -> Fed
+    requires some { 0 < length piece.old }
+    requires short { length piece.old < 2 ^ 32 }
+    requires open { env.old.ended ≡ false }
+    ensures fed { Feeds result (I.left input.old) (I.left input.new) env.old env.new }
+    ensures later { I.faults input.old ≤ I.faults input.new }
+    ensures failed { result ≡ Fed.Failed → Rose (I.faults input.old) (I.faults input.new) }
+{
+    match input.take(piece) {
+        Took::Took(n) => match put(&piece[..n as usize], env) {
+            Ok(()) => Fed::Done,
+            Err(_) => Fed::NoMemory,
+        },
+        Took::End => {
+            env.ended = true;
+            Fed::Done
+        }
+        Took::Failed => Fed::Failed,
+    }
+}
+
+/// Runs a source slice by slice.
+fn slices<I: Source, O: Sink, L: Ledger>(
+    alloc: Global,
+    sound: Sound,
+    budget: u64,
+    input: &mut I,
+    out: &mut O,
+    steps: &mut Steps<L>,
+) -> JobEnd
+    requires budget { budget ≤ 2 ^ 32 }
+    requires runnable { IsRunnable sound }
+    requires bytes { TellsBytes (I.left input.old) }
+    ensures run { OnInput (I.left input.old) (λ given. OnRun sound given budget (RanSo result (O.held out.old) (O.held out.new) steps.old steps.new)) }
+    ensures read { result ≡ JobEnd.ReadFault → Rose (I.faults input.old) (I.faults input.new) }
+    ensures fault { result ≡ JobEnd.WriteFault → Rose (O.faults out.old) (O.faults out.new) }
+    ensures reads { I.faults input.old ≤ I.faults input.new }
+    ensures later { O.faults out.old ≤ O.faults out.new }
+    ensures input { GoesOn (I.left input.old) (I.left input.new) }
+{
+    let Ok(mut machine) = booted(alloc, &sound, budget) else {
+        return JobEnd::NoMemory;
+    };
+    let mut piece = [0; PIECE];
+    let mut env = Env {
+        input: Input::new(alloc),
+        ended: false,
+        output: Vec::new(alloc),
+    };
+    'slices: loop {
+        let answer = machine.run(&sound, SLICE, &mut env, steps);
+        match give_all(out, &env.output) {
+            GaveAll::Done => {}
+            GaveAll::Failed => return JobEnd::WriteFault,
+            GaveAll::NoMemory => return JobEnd::NoMemory,
+        }
+        env.output.clear();
+        match answer {
+            StepAnswer::Stepped => {}
+            StepAnswer::Ended(end) => return JobEnd::Ended(end, alone(machine.count())),
+            StepAnswer::WantInput => match feed(input, &mut piece, &mut env) {
+                Fed::Done => {}
+                Fed::Failed => return JobEnd::ReadFault,
+                Fed::NoMemory => return JobEnd::NoMemory,
+            },
+            // All pages are there, and no instruction of an accepted source is without a meaning.
+            StepAnswer::WantPage(_) => unreachable!(),
+            StepAnswer::Stuck => unreachable!(),
+            StepAnswer::NoMemory => return JobEnd::NoMemory,
+        }
+    }
+}
+
+/// Runs a program on the device alone.
+///
+/// Its output is given as it comes, after each slice of instructions and before each take from the input. Input is taken
+/// when the program asks for a byte of which none is there.
 pub fn local_job<I: Source, O: Sink, L: Ledger>(
     alloc: Global,
     sound: Sound,
@@ -103,33 +165,16 @@ pub fn local_job<I: Source, O: Sink, L: Ledger>(
     steps: &mut Steps<L>,
 ) -> JobEnd
     requires budget { budget ≤ 2 ^ 32 }
-    requires fits { has_image sound.«module» sound.layout sound.sizes ≡ true }
-    requires role { sound.role ≡ Source }
-    // What the output got is what the run writes, and the job ends as the run does.
-    ensures run { IsRunOf result (run sound (input_of (I.left input.old)) budget) (O.held out.old) (O.held out.new) }
-    // The counter rises by what the run counts.
-    ensures counts { Counts result (run sound (input_of (I.left input.old)) budget).count steps.old steps.new }
-    // A fault of the output is told only where one came.
+    requires accepted { IsAccepted sound.«module» Source sound }
+    requires bytes { TellsBytes (I.left input.old) }
+    // What the output got is what the run writes, the job ends as the run does, and the counter rises by what the run counts.
+    ensures run { OnInput (I.left input.old) (λ given. OnRun sound given budget (RanSo result (O.held out.old) (O.held out.new) steps.old steps.new)) }
+    // A fault is told only where one came.
+    ensures read { result ≡ JobEnd.ReadFault → Rose (I.faults input.old) (I.faults input.new) }
     ensures fault { result ≡ JobEnd.WriteFault → Rose (O.faults out.old) (O.faults out.new) }
+    ensures reads { I.faults input.old ≤ I.faults input.new }
     ensures later { O.faults out.old ≤ O.faults out.new }
-    ensures untouched { input.new ≡ input.old }
+    ensures input { GoesOn (I.left input.old) (I.left input.new) }
 {
-    let Ok(mut machine) = booted(alloc, &sound, budget) else {
-        return JobEnd::NoMemory;
-    };
-    let mut buffer = Vec::new(alloc);
-    loop {
-        let worked = work(&mut machine, &sound, &mut buffer, steps);
-        match give_all(out, &buffer) {
-            GaveAll::Done => {}
-            GaveAll::Failed => return JobEnd::WriteFault,
-            GaveAll::NoMemory => return JobEnd::NoMemory,
-        }
-        buffer.clear();
-        match worked {
-            Worked::Working => {}
-            Worked::Ended(end) => return JobEnd::Ended(end, alone(machine.count())),
-            Worked::NoMemory => return JobEnd::NoMemory,
-        }
-    }
+    slices(alloc, sound, budget, input, out, steps)
 }

@@ -1,7 +1,6 @@
 //! The commands of the program, each a job over the outside world, and the top call.
 #![tactic(auto)]
 
-mod beyond;
 mod job;
 mod loading;
 mod outcome;

@@ -1,18 +1,16 @@
-ghost use Rattle.std.specs.Prelude.{◌≡◌, ◌<◌, ◌^◌, length, IfOk, true, Result, Ok, Err};
+ghost use Rattle.std.specs.Prelude.{◌≡◌, ◌<◌, ◌^◌, length, IfOk, Result, Ok, Err};
 ghost use Rattle.no_semantics.specs.Accepted.{Accepted};
 ghost use Rattle.no_app.specs.declared.outcome.ModuleFault.{ModuleFault};
-ghost use Rattle.no_image.specs.Fits.{has_image};
 ghost use Rattle.no_ir.specs.declared.function.Role.TheVariants.{Source};
 ghost use Rattle.no_verify.specs.Verdict.{IsAccepted};
 ghost use Rattle.no_module.specs.Formed.{IsFormed};
 ghost use Rattle.no_module.specs.Marks.{MarksAllowed};
-ghost use Rattle.no_app.specs.Programs.{Loads, Means, MeansModule, MeansTokens, left_out, run_by_machine, unaccepted, unlexed, unread};
+ghost use Rattle.no_app.specs.Programs.{Loads, Means, MeansModule, MeansTokens, unaccepted, unlexed, unread};
 
-use crate::beyond::first_beyond;
 use crate::outcome::ModuleFault;
-use no_ir::{List, Module, NoMemory, Role};
+use no_ir::{Module, NoMemory, Role};
 use no_lex::{LexError, Token, tokens};
-use no_read::{ReadError, ReadFault, read_module};
+use no_read::{ReadError, read_module};
 use no_runnable::accepted_programs_can_run;
 use no_semantics::Sound;
 use no_verify::{Sound as Verified, VerifyError, verify};
@@ -39,30 +37,15 @@ impl From<NoMemory> for Refused {
     }
 }
 
-/// What the machine doesn't do, by a word.
-fn beyond(alloc: Global, word: &[u8]) -> Refused
-    ensures { Loads (Err result) (λ found. found ≡ Err (left_out word.now)) }
-{
-    match List::from_slice(alloc, word) {
-        Ok(word) => Refused::Bad(ModuleFault::Read(ReadFault::LeftOut { at: 0, word })),
-        Err(_) => Refused::NoMemory,
-    }
-}
-
-/// An accepted source, where the machine of today does each of its instructions.
-#[tactic(auto, using(crate::proofs::Programs::beyond_told, crate::proofs::Programs::none_beyond, crate::proofs::Programs::parts_are))]
-fn runnable(alloc: Global, accepted: Verified) -> Result<Sound, Refused>
+/// An accepted source, as images and machines take it.
+#[tactic(auto, using(crate::proofs::Meanings::parts_are))]
+fn sound_of(accepted: Verified) -> Sound
     requires { IsAccepted accepted.«module» Source accepted }
-    ensures loads { Loads result (λ found. found ≡ run_by_machine accepted) }
-    ensures same { IfOk result (λ s. s ≡ accepted) }
-    ensures fits { IfOk result (λ s. has_image s.«module» s.layout s.sizes ≡ true) }
+    ensures { result ≡ accepted }
 {
     accepted_programs_can_run();
     let (program, layout, sizes, role) = accepted.into_parts();
-    match first_beyond(&program, &layout, &sizes) {
-        Some(word) => Err(beyond(alloc, word)),
-        None => Ok(Sound::of(program, layout, sizes, role)),
-    }
+    Sound::of(program, layout, sizes, role)
 }
 
 fn unaccepted(error: VerifyError) -> Refused
@@ -75,7 +58,7 @@ fn unaccepted(error: VerifyError) -> Refused
     }
 }
 
-/// The program that a module is: the verifier judges it, and then the machine of today.
+/// The program that a module is, by the verifier.
 #[tactic(auto, using(crate::proofs::Meanings::accepted_loads, crate::proofs::Meanings::accepted_only, crate::proofs::Meanings::unaccepted_loads, crate::proofs::Meanings::unaccepted_only))]
 fn accepted(alloc: Global, program: Module) -> Result<Sound, Refused>
     requires formed { IsFormed program }
@@ -83,11 +66,9 @@ fn accepted(alloc: Global, program: Module) -> Result<Sound, Refused>
     ensures loads { Loads result (MeansModule program) }
     ensures only { (answer : Result Accepted ModuleFault) → MeansModule program answer → Loads result (λ found. found ≡ answer) }
     ensures accepted { IfOk result (λ s. IsAccepted s.«module» Source s) }
-    ensures fits { IfOk result (λ s. has_image s.«module» s.layout s.sizes ≡ true) }
-    ensures role { IfOk result (λ s. s.role ≡ Source) }
 {
     match verify(alloc, program, Role::Source) {
-        Ok(accepted) => runnable(alloc, accepted),
+        Ok(accepted) => Ok(sound_of(accepted)),
         Err(error) => Err(unaccepted(error)),
     }
 }
@@ -117,8 +98,6 @@ fn read(alloc: Global, text: &[u8], tokens: &[Token]) -> Result<Sound, Refused>
     ensures loads { Loads result (MeansTokens text.now (Ok tokens.now)) }
     ensures only { (answer : Result Accepted ModuleFault) → MeansTokens text.now (Ok tokens.now) answer → Loads result (λ found. found ≡ answer) }
     ensures accepted { IfOk result (λ s. IsAccepted s.«module» Source s) }
-    ensures fits { IfOk result (λ s. has_image s.«module» s.layout s.sizes ≡ true) }
-    ensures role { IfOk result (λ s. s.role ≡ Source) }
 {
     match read_module(alloc, text, tokens, Role::Source) {
         Ok(program) => accepted(alloc, program),
@@ -133,8 +112,6 @@ pub(crate) fn load(alloc: Global, text: &[u8]) -> Result<Sound, Refused>
     ensures loads { Loads result (Means text.now) }
     ensures only { (answer : Result Accepted ModuleFault) → Means text.now answer → Loads result (λ found. found ≡ answer) }
     ensures accepted { IfOk result (λ s. IsAccepted s.«module» Source s) }
-    ensures fits { IfOk result (λ s. has_image s.«module» s.layout s.sizes ≡ true) }
-    ensures role { IfOk result (λ s. s.role ≡ Source) }
 {
     match tokens(alloc, text, TEXT_LIMIT) {
         Ok(tokens) => read(alloc, text, tokens.as_slice()),

@@ -12,8 +12,7 @@ use no_verify::VerifyFault;
 pub enum ModuleFault {
     /// The text does not part into tokens.
     Lex(LexFault),
-    /// The tokens read to no module. `LeftOut` at 0 is a module that no machine runs yet, with the word of the first
-    /// instruction that is the cause, or no word where none is.
+    /// The tokens read to no module.
     Read(ReadFault),
     /// The data layout string is none.
     Layout(LayoutFault),
@@ -35,6 +34,8 @@ pub enum Outcome {
     /// The file of this name could not be read.
     FileFault(Bytes),
     BadModule(ModuleFault),
+    /// The input failed.
+    ReadFault,
     /// The output, or the stream of the last line, did not take what it was given.
     WriteFault,
 }
@@ -52,5 +53,6 @@ pub fn status(outcome: &Outcome) -> u8
         Outcome::Usage => 120,
         Outcome::FileFault(_) => 121,
         Outcome::BadModule(_) => 122,
+        Outcome::ReadFault => 127,
     }
 }

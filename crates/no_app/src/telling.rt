@@ -117,6 +117,7 @@ fn put_words(out: &mut Vec<u8>, alloc: Global, outcome: &Outcome) -> Result<(), 
             out.extend_from_slice(b"bad module ")?;
             put_fault(out, alloc, fault)
         }
+        Outcome::ReadFault => put_text(out, b"read fault"),
         Outcome::WriteFault => put_text(out, b"write fault"),
     }
 }

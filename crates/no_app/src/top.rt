@@ -1,6 +1,7 @@
 ghost use Rattle.std.specs.Prelude.{◌≡◌, ◌≤◌, ◌^◌, ◌⊎◌, ℕ, List, None, Some};
+ghost use Rattle.no_app.specs.Jobs.{GoesOn, OnInput, TellsBytes};
 ghost use Rattle.no_app.specs.Words.{asked_of};
-ghost use Rattle.no_app.specs.Outcomes.{Says, WritesPart, Concludes, Tells, RunsText, WritesText, OnTold, outcome_of_job, outcome_refused};
+ghost use Rattle.no_app.specs.Outcomes.{Says, WritesPart, Concludes, Tells, RunsText, WritesText, IsRefusal, outcome_of_job, outcome_refused};
 
 use crate::job::{JobEnd, local_job};
 use crate::loading::{Refused, TEXT_LIMIT, load};
@@ -8,8 +9,8 @@ use crate::outcome::Outcome;
 use crate::telling::tell;
 use crate::words::read_words;
 use no_ir::{Bytes, End, Text};
-use no_machine::Steps;
 use no_ports::{FileAnswer, Files, Sink, Source, Spawner, Wire};
+use no_whole_machine::Steps;
 use std::alloc::Global;
 use std::convert::AsStr;
 use std::sync::ledger::Ledger;
@@ -32,6 +33,7 @@ fn job_outcome(end: JobEnd) -> Outcome
         JobEnd::Ended(End::Exited(number), _) => Outcome::Exited(number),
         JobEnd::Ended(End::Trapped(trap), _) => Outcome::Trapped(trap),
         JobEnd::Ended(End::Unfinished, _) => Outcome::Unfinished,
+        JobEnd::ReadFault => Outcome::ReadFault,
         JobEnd::WriteFault => Outcome::WriteFault,
         JobEnd::NoMemory => Outcome::NoMemory,
     }
@@ -56,10 +58,12 @@ fn run_text<I: Source, O: Sink, L: Ledger>(
     out: &mut O,
     steps: &mut Steps<L>,
 ) -> Outcome
-    requires { budget ≤ 2 ^ 32 }
-    ensures says { OnTold (I.left input.old) (λ given. RunsText result (record { held = O.held out.old; held' = O.held out.new; counted = steps.old; counted' = steps.new; outs = O.faults out.old; outs' = O.faults out.new }) given budget text.now) }
-    ensures part { OnTold (I.left input.old) (λ given. WritesText (record { held = O.held out.old; held' = O.held out.new; counted = steps.old; counted' = steps.new; outs = O.faults out.old; outs' = O.faults out.new }) given budget text.now) }
-    ensures untouched { input.new ≡ input.old }
+    requires budget { budget ≤ 2 ^ 32 }
+    requires bytes { TellsBytes (I.left input.old) }
+    ensures says { OnInput (I.left input.old) (λ given. RunsText result (record { held = O.held out.old; held' = O.held out.new; counted = steps.old; counted' = steps.new; ins = I.faults input.old; ins' = I.faults input.new; outs = O.faults out.old; outs' = O.faults out.new }) given budget text.now) }
+    ensures part { OnInput (I.left input.old) (λ given. WritesText (record { held = O.held out.old; held' = O.held out.new; counted = steps.old; counted' = steps.new; ins = I.faults input.old; ins' = I.faults input.new; outs = O.faults out.old; outs' = O.faults out.new }) given budget text.now) }
+    ensures input { GoesOn (I.left input.old) (I.left input.new) }
+    ensures untouched { IsRefusal result → input.new ≡ input.old }
 {
     match load(alloc, text) {
         Ok(sound) => job_outcome(local_job(alloc, sound, budget, input, out, steps)),
@@ -76,10 +80,12 @@ fn perform<F: Files, I: Source, O: Sink, L: Ledger>(
     out: &mut O,
     steps: &mut Steps<L>,
 ) -> Outcome
-    ensures says { Says result (record { job = asked_of words.now; contents = F.contents files.old; input = I.left input.old; flow = record { held = O.held out.old; held' = O.held out.new; counted = steps.old; counted' = steps.new; outs = O.faults out.old; outs' = O.faults out.new }; faults = F.faults files.old; faults' = F.faults files.new }) }
-    ensures part { WritesPart (record { job = asked_of words.now; contents = F.contents files.old; input = I.left input.old; flow = record { held = O.held out.old; held' = O.held out.new; counted = steps.old; counted' = steps.new; outs = O.faults out.old; outs' = O.faults out.new }; faults = F.faults files.old; faults' = F.faults files.new }) (asked_of words.now) }
+    requires { TellsBytes (I.left input.old) }
+    ensures says { Says result (record { job = asked_of words.now; contents = F.contents files.old; input = I.left input.old; flow = record { held = O.held out.old; held' = O.held out.new; counted = steps.old; counted' = steps.new; ins = I.faults input.old; ins' = I.faults input.new; outs = O.faults out.old; outs' = O.faults out.new }; faults = F.faults files.old; faults' = F.faults files.new }) }
+    ensures part { WritesPart (record { job = asked_of words.now; contents = F.contents files.old; input = I.left input.old; flow = record { held = O.held out.old; held' = O.held out.new; counted = steps.old; counted' = steps.new; ins = I.faults input.old; ins' = I.faults input.new; outs = O.faults out.old; outs' = O.faults out.new }; faults = F.faults files.old; faults' = F.faults files.new }) (asked_of words.now) }
     ensures files { (name : List ℕ) → F.contents files.new name ≡ F.contents files.old name }
-    ensures untouched { input.new ≡ input.old }
+    ensures input { GoesOn (I.left input.old) (I.left input.new) }
+    ensures untouched { IsRefusal result → input.new ≡ input.old }
 {
     let Some(request) = read_words(words) else {
         return Outcome::Usage;
@@ -106,15 +112,18 @@ pub fn command<F: Files, I: Source, O: Sink, E: Sink, W: Wire, S: Spawner, L: Le
     spawner: &mut S,
     steps: &mut Steps<L>,
 ) -> Outcome
+    requires { TellsBytes (I.left input.old) }
     // The headline, and when each outcome comes.
-    ensures says { Concludes result (record { job = asked_of words.now; contents = F.contents files.old; input = I.left input.old; flow = record { held = O.held out.old; held' = O.held out.new; counted = steps.old; counted' = steps.new; outs = O.faults out.old; outs' = O.faults out.new }; faults = F.faults files.old; faults' = F.faults files.new }) (E.faults err.old) (E.faults err.new) }
+    ensures says { Concludes result (record { job = asked_of words.now; contents = F.contents files.old; input = I.left input.old; flow = record { held = O.held out.old; held' = O.held out.new; counted = steps.old; counted' = steps.new; ins = I.faults input.old; ins' = I.faults input.new; outs = O.faults out.old; outs' = O.faults out.new }; faults = F.faults files.old; faults' = F.faults files.new }) (E.faults err.old) (E.faults err.new) }
     // Whatever the outcome, no more than a prefix of the run's output is written, and no more counted than the run counts.
-    ensures part { WritesPart (record { job = asked_of words.now; contents = F.contents files.old; input = I.left input.old; flow = record { held = O.held out.old; held' = O.held out.new; counted = steps.old; counted' = steps.new; outs = O.faults out.old; outs' = O.faults out.new }; faults = F.faults files.old; faults' = F.faults files.new }) (asked_of words.now) }
+    ensures part { WritesPart (record { job = asked_of words.now; contents = F.contents files.old; input = I.left input.old; flow = record { held = O.held out.old; held' = O.held out.new; counted = steps.old; counted' = steps.new; ins = I.faults input.old; ins' = I.faults input.new; outs = O.faults out.old; outs' = O.faults out.new }; faults = F.faults files.old; faults' = F.faults files.new }) (asked_of words.now) }
     // The line that `err` gets.
-    ensures told { Tells result (record { job = asked_of words.now; contents = F.contents files.old; input = I.left input.old; flow = record { held = O.held out.old; held' = O.held out.new; counted = steps.old; counted' = steps.new; outs = O.faults out.old; outs' = O.faults out.new }; faults = F.faults files.old; faults' = F.faults files.new }) (E.held err.old) (E.held err.new) (E.faults err.old) (E.faults err.new) }
+    ensures told { Tells result (record { job = asked_of words.now; contents = F.contents files.old; input = I.left input.old; flow = record { held = O.held out.old; held' = O.held out.new; counted = steps.old; counted' = steps.new; ins = I.faults input.old; ins' = I.faults input.new; outs = O.faults out.old; outs' = O.faults out.new }; faults = F.faults files.old; faults' = F.faults files.new }) (E.held err.old) (E.held err.new) (E.faults err.old) (E.faults err.new) }
+    // Input is taken in its order, and none before a run begins.
+    ensures input { GoesOn (I.left input.old) (I.left input.new) }
+    ensures untouched { IsRefusal result → input.new ≡ input.old }
     // What stays the same.
     ensures files { (name : List ℕ) → F.contents files.new name ≡ F.contents files.old name }
-    ensures input { input.new ≡ input.old }
     ensures wire { wire.new ≡ wire.old }
     ensures spawner { spawner.new ≡ spawner.old }
 {

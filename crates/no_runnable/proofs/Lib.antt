@@ -1,7 +1,7 @@
 mod Images
 mod Layouts
 mod Lists
-mod Modules
+pub mod Modules
 mod Ops
 mod Places
 mod Tables

@@ -24,6 +24,8 @@ returns-in-Done-clause-part g c =
         held' = g.O.Sink.held c.run_text.new.out;
         counted = c.args.steps.now;
         counted' = c.run_text.new.steps;
+        ins = g.I.Source.faults c.args.input.now;
+        ins' = g.I.Source.faults c.run_text.new.input;
         outs = g.O.Sink.faults c.args.out.now;
         outs' = g.O.Sink.faults c.run_text.new.out;
       };
@@ -43,13 +45,15 @@ returns-in-Failed-clause-part g c =
         held' = g.O.Sink.held c.args.out.now;
         counted = c.args.steps.now;
         counted' = c.args.steps.now;
+        ins = g.I.Source.faults c.args.input.now;
+        ins' = g.I.Source.faults c.args.input.now;
         outs = g.O.Sink.faults c.args.out.now;
         outs' = g.O.Sink.faults c.args.out.now;
       };
       faults = g.F.Files.faults c.args.files.now;
       faults' = g.F.Files.faults c.read.new.self;
     } in
-    idle_writes around (asked_of c.args.words.now) (record { wrote = refl; counts = refl })
+    idle_writes around (asked_of c.args.words.now) c.requires (record { wrote = refl; counts = refl })
 
 pub returns-clause-part : goal.returns-clause-part
 returns-clause-part g c =
@@ -62,10 +66,12 @@ returns-clause-part g c =
         held' = g.O.Sink.held c.args.out.now;
         counted = c.args.steps.now;
         counted' = c.args.steps.now;
+        ins = g.I.Source.faults c.args.input.now;
+        ins' = g.I.Source.faults c.args.input.now;
         outs = g.O.Sink.faults c.args.out.now;
         outs' = g.O.Sink.faults c.args.out.now;
       };
       faults = g.F.Files.faults c.args.files.now;
       faults' = g.F.Files.faults c.read.new.self;
     } in
-    idle_writes around (asked_of c.args.words.now) (record { wrote = refl; counts = refl })
+    idle_writes around (asked_of c.args.words.now) c.requires (record { wrote = refl; counts = refl })
