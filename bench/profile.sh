@@ -1,6 +1,6 @@
 #!/usr/bin/env bash
 # How long the program takes to read modules of 1 MiB and 16 MiB, made of what a compiler writes, and texts that are made to
-# be slow to read. Outside the gate. The figures stand in docs/GATE.md.
+# be slow to read. Outside the gate. The figures stand in docs/MEASUREMENTS.md.
 #
 # Goals: 16 MiB in at most 20 times the time of 1 MiB, and in at most 60 times the memory of the text.
 # The program is $NATIVEOFF, or the one that was built here; llvm-as reads the two modules too, where it is there.

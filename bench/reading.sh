@@ -1,6 +1,6 @@
 #!/usr/bin/env bash
 # How long the program takes to read and run a text of 1 MiB and one of 16 MiB, each one long chain of sums.
-# Outside the gate. The figures stand in docs/GATE.md.
+# Outside the gate. The figures stand in docs/MEASUREMENTS.md.
 set -eu
 cd "$(dirname "$0")/.."
 ./nativeoff local examples/first/hi.ll --steps 1 >/dev/null 2>&1 || true

@@ -1,10 +1,10 @@
 #!/usr/bin/env bash
 # How long the program takes to read and judge modules of many blocks, registers, edges and names, and modules that are made
-# to be slow to judge. Outside the gate. The figures stand in docs/GATE.md.
+# to be slow to judge. Outside the gate. The figures stand in docs/MEASUREMENTS.md.
 #
 # Goal: each in no more steps than instructions, and blocks times registers over 64. The ladders are made to miss it: there sets
 # shrink one register at a time in front of a long chain, so its blocks are looked at 64 times for each 64 registers.
-# The program is $NATIVEOFF, or the one that was built here. No module is run: the machine of today does none of them.
+# The program is $NATIVEOFF, or the one that was built here.
 # Words: the names of modules, to judge only these (without any: all). KEEP=FOLDER keeps the texts.
 set -eu
 cd "$(dirname "$0")/.."

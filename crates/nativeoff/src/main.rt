@@ -10,7 +10,7 @@ mod std_source;
 use host_files::HostFiles;
 use no_app::{Outcome, command, status};
 use no_ir::Text;
-use no_whole_machine::Steps;
+use no_machine::Steps;
 use no_ports::{ClosedSpawner, ClosedWire};
 use std::marker::Brand;
 use std::process::ExitCode;

@@ -1,52 +1,77 @@
-ghost use Rattle.std.specs.Prelude.{◌≡◌, ◌+◌, ◌<◌, ◌^◌, true};
+ghost use Rattle.std.specs.Prelude.{◌≡◌, ◌≢◌, ◌+◌, ◌<◌, ◌^◌, ℕ, List, true};
+ghost use Rattle.no_layout.specs.Memory.{Agrees};
+ghost use Rattle.no_semantics.specs.Acting.{row_of_op};
+ghost use Rattle.no_semantics.specs.Results.{Valued};
+ghost use Rattle.no_semantics.specs.Rows.{computed};
 ghost use Rattle.no_semantics.specs.Sound.{op_fits};
-ghost use Rattle.no_semantics.specs.Step.{act_op, step};
-ghost use Rattle.no_semantics.specs.State.{instr_at};
-ghost use Rattle.no_machine.specs.Acted.{Acts, MayLackMemory, OpTakesMemory};
+ghost use Rattle.no_machine.specs.Acted.{Acts, IsNoCall, OpTakesMemory};
 ghost use Rattle.no_machine.specs.Held.{IsKept, program_in, state_in};
+ghost use Rattle.no_machine.specs.Labels.{AreTables};
+ghost use Rattle.no_machine.specs.Outcomes.{value_of};
 
-use crate::state::{Acted, Core};
-use no_ir::{End, Instr, Op, Trap};
+use crate::state::{Acted, Core, Outcome};
+use no_ir::{Op, Trap};
 use no_layout::Memory;
 use no_semantics::Sound;
 
 impl<M: Memory> Core<M> {
-    /// Does one instruction.
-    #[tactic(auto, using(crate::proofs::Moved::moves_acts))]
-    fn act(&mut self, sound: &Sound, instr: &Instr, out: &mut Vec<u8>) -> Acted
+    /// A value becomes the result of an instruction.
+    fn conclude(&mut self, into: Option<u32>, value: Outcome) -> Acted
         requires room { self.old.frame.at + 1 < 2 ^ 64 }
-        requires fits { op_fits sound.now.«module» sound.now.layout sound.now.sizes instr.now.op ≡ true }
-        ensures acts { Acts (act_op (program_in M.regions sound.now self.old) instr.now.result instr.now.op (state_in M.byte self.old)) (M.held self.old.mem) result (state_in M.byte self.old) (state_in M.byte self.new) out.old.items out.new.items }
+        ensures acts { (v : Valued) → v ≡ value_of value → (whole : ℕ → ℕ) → (input : List ℕ) → Agrees (M.held self.old.mem) (M.byte self.old.mem) whole → Acts M.byte M.held (computed into v (state_in self.old whole input)) result self.old self.new input }
         ensures kept { IsKept M.regions M.held self.old self.new }
-        ensures enough { result ≡ Acted.NoMemory → OpTakesMemory instr.now.op }
+        ensures enough { result ≢ Acted.NoMemory }
     {
-        let into = instr.result;
-        match &instr.op {
-            Op::Binary(o, w, a, b) => self.binary(sound, into, *o, *w, a, b),
-            Op::Compare(o, t, a, b) => self.compare(sound, into, *o, t, a, b),
-            Op::Cast(o, t, a, u) => self.convert(sound, into, *o, t, a, u),
-            Op::Freeze(t, a) => self.freeze(sound, into, t, a),
-            Op::Select(c, t, a, b) => self.select(sound, into, c, t, a, b),
+        self.finish(into, value)
+    }
+
+    /// Does an instruction that is no call.
+    pub(crate) fn act_plain(&mut self, sound: &Sound, into: Option<u32>, op: &Op) -> Acted
+        requires room { self.old.frame.at + 1 < 2 ^ 64 }
+        requires fits { op_fits sound.now.«module» sound.now.layout sound.now.sizes op.now ≡ true }
+        requires plain { IsNoCall op.now }
+        requires labels { AreTables sound.now.«module».functions self.old.labels }
+        ensures acts { (whole : ℕ → ℕ) → (input : List ℕ) → Agrees (M.held self.old.mem) (M.byte self.old.mem) whole → Acts M.byte M.held (row_of_op (program_in M.regions sound.now self.old) into op.now (state_in self.old whole input)) result self.old self.new input }
+        ensures kept { IsKept M.regions M.held self.old self.new }
+        ensures enough { result ≡ Acted.NoMemory → OpTakesMemory op.now }
+    {
+        match op {
+            Op::Binary(o, w, a, b) => {
+                let value = self.binary(sound, *o, *w, a, b);
+                self.conclude(into, value)
+            }
+            Op::Compare(o, t, a, b) => {
+                let value = self.compare(sound, *o, t, a, b);
+                self.conclude(into, value)
+            }
+            Op::Cast(o, t, a, u) => {
+                let value = self.convert(sound, *o, t, a, u);
+                self.conclude(into, value)
+            }
+            Op::Freeze(t, a) => {
+                let value = self.freeze(sound, t, a);
+                self.conclude(into, value)
+            }
+            Op::Select(c, t, a, b) => {
+                let value = self.select(sound, c, t, a, b);
+                self.conclude(into, value)
+            }
+            Op::Gep(t, a, indices) => {
+                let value = self.path(sound, t, a, indices.as_slice());
+                self.conclude(into, value)
+            }
             Op::Alloca(t, count, align) => self.allocate(sound, into, t, count, *align),
             Op::Load(_, t, a) => self.load(sound, into, t, a),
             Op::Store(_, t, v, a) => self.store(sound, t, v, a),
-            Op::Gep(t, a, indices) => self.step_into(sound, into, t, a, indices.as_slice()),
-            Op::Call(_, g, args) => self.call(sound, into, g, args.as_slice(), out),
-            Op::Ret(Some((t, a))) => Acted::Ended(self.returned(sound, t, a)),
-            _ => Acted::Ended(End::Trapped(Trap::Unreachable)),
-        }
-    }
-
-    /// Does the next instruction.
-    #[tactic(auto, unfolding(no_semantics::specs::Step::step))]
-    pub(crate) fn act_next(&mut self, sound: &Sound, out: &mut Vec<u8>) -> Acted
-        ensures acts { Acts (step (program_in M.regions sound.now self.old) (state_in M.byte self.old)) (M.held self.old.mem) result (state_in M.byte self.old) (state_in M.byte self.new) out.old.items out.new.items }
-        ensures kept { IsKept M.regions M.held self.old self.new }
-        ensures enough { result ≡ Acted.NoMemory → MayLackMemory (instr_at sound.now.«module» self.old.frame) }
-    {
-        match sound.instr(&self.frame) {
-            Some(instr) => self.act(sound, instr, out),
-            None => Acted::Ended(End::Trapped(Trap::Unreachable)),
+            Op::Br(label) => self.br(sound, *label),
+            Op::CondBr(c, label, other) => self.cond_br(sound, c, *label, *other),
+            Op::Switch(w, a, default, cases) => {
+                self.switch(sound, *w, a, *default, cases.as_slice())
+            }
+            Op::Ret(value) => self.ret(sound, value),
+            Op::Unreachable => Acted::Trapped(Trap::Unreachable),
+            Op::Phi(_, _) => Acted::Stuck,
+            Op::Call(_, _, _) => Acted::Stuck,
         }
     }
 }

@@ -3,10 +3,20 @@
 
 mod access;
 mod act;
+mod boot;
 mod calls;
+mod edges;
+mod externals;
+mod frame;
+mod invoke;
+mod labels;
 mod machine;
-mod numbers;
-mod rows;
+mod memory;
+mod next;
+mod operands;
+mod paths;
+mod returns;
+mod run;
 mod state;
 mod steps;
 mod values;

@@ -1,29 +1,35 @@
-ghost use Rattle.std.specs.Prelude.{◌≡◌, ◌-◌, ◌≤◌, None, IfOk, replicate};
-ghost use Rattle.no_semantics.specs.State.{main_number, start_frame};
+ghost use Rattle.std.specs.Prelude.{◌≡◌, ◌+◌, ◌-◌, ◌*◌, ◌≤◌, ℕ, List, [], ◌++◌, None, OnErr, OnOk, false, length, true};
+ghost use Rattle.no_layout.specs.Memory.{Agrees, IsPage, also, written};
+ghost use Rattle.no_semantics.specs.States.{instr_at};
+ghost use Rattle.no_machine.specs.Acted.{MayLackMemory};
+ghost use Rattle.no_machine.specs.Called.{HasNoMarks};
 ghost use Rattle.no_machine.specs.Counted.{counted};
-ghost use Rattle.no_machine.specs.Running.{Does, IsBooted, TakesStep, budget_of, count_of, end_of, memory_of, state_of};
+ghost use Rattle.no_machine.specs.Held.{frame_of};
+ghost use Rattle.no_machine.specs.Told.{answer_of, cost_of, stop_of};
+ghost use Rattle.no_machine.specs.Running.{HasNotMoved, IsFor, Stays, Takes, budget_of, count_of, end_of, memory_of, program_of, row_of};
 
 use crate::Steps;
 use crate::state::{Acted, Core};
-use no_ir::{End, List, Module, NoMemory};
-use no_layout::{Memory, STACK_END};
-use no_semantics::{Frame, Sound};
-use std::alloc::Global;
+use no_heap::Heap;
+use no_ir::{End, NoMemory};
+use no_layout::Memory;
+use no_lib::Env;
+use no_semantics::Sound;
 use std::sync::ledger::Ledger;
-
-const MAIN: &[u8] = b"main";
-
-/// By how much a call lowers the stack pointer.
-const CALL_ROOM: u32 = 16;
 
 /// What a step did.
 #[derive(Clone, Copy, Debug, PartialEq, Eq)]
 pub enum StepAnswer {
     Stepped,
-    /// This page is absent, and the instruction needs it. Nothing changed: supply it, and take the step again.
+    /// This page is absent. It is the lowest of those that the instruction needs, and has a byte in a region. Nothing
+    /// changed: supply it, and take the step again.
     WantPage(u32),
+    /// The instruction takes a byte of the input, and none is there. Nothing changed: give some, or end the input.
+    WantInput,
     /// The run has ended so; each further step answers the same.
     Ended(End),
+    /// The instruction has no meaning. No accepted module comes here.
+    Stuck,
     /// Nothing changed.
     NoMemory,
 }
@@ -31,127 +37,98 @@ pub enum StepAnswer {
 /// A run of a module over a memory, within a budget.
 #[derive(Drop)]
 pub struct Machine<M: Memory> {
-    core: Core<M>,
-    count: u64,
-    budget: u64,
-    end: Option<End>,
+    pub(crate) core: Core<M>,
+    pub(crate) count: u64,
+    pub(crate) budget: u64,
+    pub(crate) end: Option<End>,
 }
 
-/// The number of the function `main`.
-fn main_place(program: &Module) -> u64
-    ensures { result ≡ main_number program.now }
+/// What an instruction counts.
+fn cost_of(acted: Acted) -> u64
+    ensures { result ≡ cost_of acted }
 {
-    for (index, function) in program.functions.as_slice().iter().enumerate() {
-        if function.name.as_slice() == MAIN {
-            return index as u64;
-        }
+    match acted {
+        Acted::Went(cost) => cost,
+        Acted::Trapped(_) | Acted::Exited(_) | Acted::Left(Some(_)) => 1,
+        _ => 0,
     }
-    0
 }
 
-/// So many zeros.
-fn zeros(alloc: Global, count: usize) -> Result<List<u64>, NoMemory>
-    ensures { IfOk result (λ z. z ≡ replicate count 0) }
+/// How a run ends by an instruction, if it does. The return of its first frame ends it with the low 8 bits.
+fn stop_of(acted: Acted) -> Option<End>
+    ensures { result ≡ stop_of acted }
 {
-    let mut registers = List::new(alloc);
-    for _ in 0..count {
-        registers.push(0u64)?;
+    match acted {
+        Acted::Trapped(trap) => Some(End::Trapped(trap)),
+        Acted::Exited(status) => Some(End::Exited(status)),
+        Acted::Left(Some(n)) => Some(End::Exited((n % 256) as u8)),
+        Acted::Over => Some(End::Unfinished),
+        _ => None,
     }
-    Ok(registers)
 }
 
-/// The entry of `main`.
-fn entry(alloc: Global, program: &Module) -> Result<Frame, NoMemory>
-    ensures { IfOk result (λ f. f ≡ start_frame program.now) }
+/// What a step answers.
+fn answer_of(acted: Acted) -> StepAnswer
+    ensures { result ≡ answer_of acted }
 {
-    let function = main_place(program);
-    let count = match program.functions.get(function as usize) {
-        Some(main) => main.registers.len(),
-        None => 0,
-    };
-    Ok(Frame {
-        function,
-        block: 0,
-        at: 0,
-        caller_sp: STACK_END,
-        registers: zeros(alloc, count)?,
-    })
+    match acted {
+        Acted::Went(_) => StepAnswer::Stepped,
+        Acted::Trapped(trap) => StepAnswer::Ended(End::Trapped(trap)),
+        Acted::Exited(status) => StepAnswer::Ended(End::Exited(status)),
+        Acted::Left(Some(n)) => StepAnswer::Ended(End::Exited((n % 256) as u8)),
+        Acted::Over => StepAnswer::Ended(End::Unfinished),
+        Acted::Left(None) | Acted::Stuck => StepAnswer::Stuck,
+        Acted::WantPage(page) => StepAnswer::WantPage(page),
+        Acted::WantInput => StepAnswer::WantInput,
+        Acted::NoMemory => StepAnswer::NoMemory,
+    }
 }
 
 impl<M: Memory> Machine<M> {
-    /// At the entry of `main`, with nothing counted and 0 in each register.
-    ///
-    /// The addresses are those of the module's globals, and the memory holds its first bytes.
-    pub fn boot(
-        alloc: Global,
-        sound: &Sound,
-        addresses: List<u32>,
-        mem: M,
-        budget: u64,
-    ) -> Result<Machine<M>, NoMemory>
-        ensures { IfOk result (λ r. IsBooted M.byte sound.now addresses mem budget r) }
-    {
-        Ok(Machine {
-            core: Core {
-                frame: entry(alloc, sound.module())?,
-                sp: STACK_END - CALL_ROOM,
-                mem,
-                addresses,
-            },
-            count: 0,
-            budget,
-            end: None,
-        })
-    }
-
     /// Does one instruction, and counts it, or says why not.
     ///
-    /// The output grows by what the instruction writes. The module is the one that the machine was made with.
+    /// The module is the one that the machine was made for. What is said holds over every whole memory that agrees with
+    /// the pages that the machine has, and every input that begins with what was given, and is that once it has ended.
     pub fn step<L: Ledger>(
         &mut self,
         sound: &Sound,
-        out: &mut Vec<u8>,
+        env: &mut Env,
         steps: &mut Steps<L>,
     ) -> StepAnswer
         requires within { count_of self.old ≤ budget_of self.old }
-        // What is left of the run is what this step wrote and counted, and then what is left after it.
-        ensures does { Does M.regions M.byte sound.now self.old self.new out.old.items out.new.items }
-        ensures answer { TakesStep M.byte M.held sound.now result self.old self.new }
+        requires made { IsFor sound.now self.old }
+        requires marks { HasNoMarks sound.now.«module» }
+        ensures takes { end_of self.old ≡ None → (whole : ℕ → ℕ) → (more : List ℕ) → Agrees (M.held (memory_of self.old)) (M.byte (memory_of self.old)) whole → (env.old.ended ≡ true → more ≡ []) → Takes M.byte M.held (row_of M.regions sound.now self.old whole (env.old.input ++ more)) result self.old self.new env.old env.new more }
+        ensures over { HasNotMoved (end_of self.old) result self.old self.new env.old env.new }
+        ensures stays { Stays M.regions M.held self.old self.new }
+        ensures within { count_of self.new ≤ budget_of self.new }
+        ensures later { count_of self.old ≤ count_of self.new }
+        ensures made { IsFor sound.now self.new }
+        ensures enough { result ≡ StepAnswer.NoMemory → MayLackMemory (instr_at (program_of M.regions sound.now self.old) (frame_of self.old.core.frame)) }
+        ensures inside { (page : ℕ) → result ≡ StepAnswer.WantPage page → IsPage (M.regions (memory_of self.new)) page }
         // The counter rises by what was counted.
         ensures counts { steps.new ≡ counted sound.now.role (count_of self.new - count_of self.old) steps.old }
     {
         if let Some(end) = self.end {
             return StepAnswer::Ended(end);
         }
-        if self.count == self.budget {
-            self.end = Some(End::Unfinished);
-            return StepAnswer::Ended(End::Unfinished);
-        }
-        match self.core.act_next(sound, out) {
-            Acted::NoMemory => StepAnswer::NoMemory,
-            Acted::WantPage(page) => StepAnswer::WantPage(page),
-            Acted::Ended(end) => {
-                self.count += 1;
-                steps.count(sound.role(), 1);
-                self.end = Some(end);
-                StepAnswer::Ended(end)
-            }
-            Acted::Went => {
-                self.count += 1;
-                steps.count(sound.role(), 1);
-                StepAnswer::Stepped
-            }
-        }
+        let _blocks = self.core.heap.blocks();
+        let acted = self.core.act_next(sound, self.budget - self.count, env);
+        let cost = cost_of(acted);
+        self.count += cost;
+        steps.count(sound.role(), cost);
+        self.end = stop_of(acted);
+        answer_of(acted)
     }
 
-    /// The instructions counted so far.
+    /// What was counted so far.
     pub fn count(&self) -> u64
         ensures { result ≡ count_of self.now }
     {
         self.count
     }
 
-    /// How many instructions may be counted.
+    /// How much may be counted.
     pub fn budget(&self) -> u64
         ensures { result ≡ budget_of self.now }
     {
@@ -160,9 +137,16 @@ impl<M: Memory> Machine<M> {
 
     /// The stack pointer.
     pub fn sp(&self) -> u32
-        ensures { result ≡ (state_of M.byte self.now).sp }
+        ensures { result ≡ self.now.core.sp }
     {
         self.core.sp
+    }
+
+    /// How many frames there are.
+    pub fn depth(&self) -> usize
+        ensures { result ≡ length self.now.core.callers.items + 1 }
+    {
+        self.core.callers.len() + 1
     }
 
     /// How the run ended, if it has.
@@ -176,5 +160,27 @@ impl<M: Memory> Machine<M> {
         ensures { result.now ≡ memory_of self.now }
     {
         &self.core.mem
+    }
+
+    /// Gives the memory a page that it lacks, as one that a step wants. Nothing else changes, and where memory lacks
+    /// nothing at all.
+    pub fn supply(&mut self, page: u32, bytes: &[u8; 4096]) -> Result<(), NoMemory>
+        requires absent { M.held (memory_of self.old) page ≡ false }
+        requires inside { IsPage (M.regions (memory_of self.old)) page }
+        ensures bytes { OnOk result (M.byte (memory_of self.new) ≡ written (M.byte (memory_of self.old)) (4096 * page) bytes.now) }
+        ensures held { OnOk result (M.held (memory_of self.new) ≡ also (M.held (memory_of self.old)) page) }
+        ensures same { OnErr result (M.byte (memory_of self.new) ≡ M.byte (memory_of self.old)) }
+        ensures lacks { OnErr result (M.held (memory_of self.new) ≡ M.held (memory_of self.old)) }
+        ensures others { self.new ≡ record self.old { core = record self.old.core { mem = memory_of self.new } } }
+        ensures regions { M.regions (memory_of self.new) ≡ M.regions (memory_of self.old) }
+        ensures dirty { M.dirty (memory_of self.new) ≡ M.dirty (memory_of self.old) }
+    {
+        self.core.mem.supply(page, bytes)
+    }
+
+    pub fn heap(&self) -> &Heap
+        ensures { result.now ≡ self.now.core.heap }
+    {
+        &self.core.heap
     }
 }

@@ -5,17 +5,14 @@ use Rattle.std.specs.List.{list_all}
 use Rattle.std.proofs.lemmas.Bool.{cases_Bool, or_cases, eqb-true}
 use Rattle.std.proofs.lemmas.List.Folds.{list_all_at}
 use Rattle.std.proofs.lemmas.Option.{slice_get_within, get_or_from_slice_get}
-use Rattle.no_ir.specs.declared.instruction.Instr.{Instr}
 use Rattle.no_ir.specs.declared.function.Block.{Block}
 use Rattle.no_ir.specs.declared.function.Function.{Function}
 use Rattle.no_ir.specs.declared.function.Module.{Module}
 use Rattle.no_layout.specs.Text.{is_formed}
 use Rattle.no_layout.specs.declared.extent.Extent.{Extent}
 use Rattle.no_layout.specs.declared.layout.Layout.{Layout}
-use Rattle.no_semantics.specs.declared.frame.Frame.{Frame}
 use Rattle.no_semantics.specs.Sound.{is_sound, op_fits, block_fits, function_fits, table_holds}
 use Rattle.no_semantics.specs.Registers.{given}
-use Rattle.no_semantics.specs.State.{instr_at, instr_in, block_at}
 use Rattle.no_semantics.specs.States.{block_in}
 
 pub both : (a b : Bool) → (a && b) ≡ true → (a ≡ true) × (b ≡ true)
@@ -43,27 +40,6 @@ pub table_is : (m : Module) (l : Layout) (sizes : List Extent) → is_sound m l 
 unfolding is_sound
 table_is m l sizes e =
     (both (table_holds l sizes 0 m.types) (list_all (function_fits m l sizes) m.functions) (both (is_formed l) (table_holds l sizes 0 m.types && list_all (function_fits m l sizes) m.functions) e).1).0
-
-in_block : (m : Module) (l : Layout) (sizes : List Extent) (b : Block) (k : ℕ) (o : Option Instr) → slice_get b.instrs k ≡ o → block_fits m l sizes b ≡ true
-    → IfSome o (λ i. op_fits m l sizes i.op ≡ true)
-in_block m l sizes b k None is e = tt
-in_block m l sizes b k (Some i) is e = each_at (λ (i : Instr). op_fits m l sizes i.op) b.instrs k i e is
-
-in_function : (m : Module) (l : Layout) (sizes : List Extent) (f : Function) (b k : ℕ) (o : Option Block) → slice_get f.blocks b ≡ o → function_fits m l sizes f ≡ true
-    → IfSome (instr_in o k) (λ i. op_fits m l sizes i.op ≡ true)
-in_function m l sizes f b k None is e = tt
-in_function m l sizes f b k (Some block) is e = in_block m l sizes block k (slice_get block.instrs k) refl (each_at (block_fits m l sizes) f.blocks b block e is)
-
-in_module : (m : Module) (l : Layout) (sizes : List Extent) (g b k : ℕ) (o : Option Function) → slice_get m.functions g ≡ o → list_all (function_fits m l sizes) m.functions ≡ true
-    → IfSome (instr_in (block_at o b) k) (λ i. op_fits m l sizes i.op ≡ true)
-in_module m l sizes g b k None is e = tt
-in_module m l sizes g b k (Some f) is e = in_function m l sizes f b k (slice_get f.blocks b) refl (each_at (function_fits m l sizes) m.functions g f e is)
-
-pub instr_fits : (m : Module) (l : Layout) (sizes : List Extent) (at : Frame) → is_sound m l sizes ≡ true → IfSome (instr_at m at) (λ i. op_fits m l sizes i.op ≡ true)
-unfolding is_sound
-instr_fits m l sizes at e =
-    in_module m l sizes at.function at.block at.at (slice_get m.functions at.function) refl
-    (both (table_holds l sizes 0 m.types) (list_all (function_fits m l sizes) m.functions) (both (is_formed l) (table_holds l sizes 0 m.types && list_all (function_fits m l sizes) m.functions) e).1).1
 
 block_of : (m : Module) (l : Layout) (sizes : List Extent) (b : ℕ) (o : Option Function) (g : ℕ) → slice_get m.functions g ≡ o → list_all (function_fits m l sizes) m.functions ≡ true
     → IfSome (given None o (λ (f : Function). slice_get f.blocks b)) (λ (b : Block). block_fits m l sizes b ≡ true)

@@ -4,10 +4,7 @@ pub mod Image
 pub mod Indices
 pub mod Sound
 pub mod Values
-pub mod State
-pub mod Step
 pub mod First
-pub mod Run
 pub mod Registers
 pub mod Results
 pub mod States

@@ -1,12 +1,10 @@
-ghost use Rattle.std.specs.Prelude.{◌≡◌, ◌+◌, ◌<◌, ◌^◌, IsTrue, OnSome, true};
+ghost use Rattle.std.specs.Prelude.{◌≡◌, IsTrue, true};
 ghost use Rattle.std.specs.Option.{option_copied, IfSome};
 ghost use Rattle.no_layout.specs.Text.{is_formed};
-ghost use Rattle.no_semantics.specs.Sound.{block_fits, is_sound, op_fits};
-ghost use Rattle.no_semantics.specs.State.{instr_at};
+ghost use Rattle.no_semantics.specs.Sound.{block_fits, is_sound};
 ghost use Rattle.no_semantics.specs.States.{block_in};
 
-use crate::Frame;
-use no_ir::{Block, Instr, Module, Role};
+use no_ir::{Block, Module, Role};
 use no_layout::{Layout, Sizes};
 use std::marker::Model;
 
@@ -86,15 +84,6 @@ impl Sound {
     {
         block_in(&self.inner, function, block)
     }
-
-    /// The instruction at which a frame stands, which a machine runs.
-    pub fn instr(&self, frame: &Frame) -> Option<&Instr>
-        ensures value { option_copied result ≡ instr_at self.now.«module» frame.now }
-        ensures fits { IfSome (option_copied result) (λ i. op_fits self.now.«module» self.now.layout self.now.sizes i.op ≡ true) }
-        ensures within { OnSome result (frame.now.at + 1 < 2 ^ 64) }
-    {
-        fetch(&self.inner, frame)
-    }
 }
 
 /// A block of a function, by their numbers.
@@ -106,16 +95,4 @@ fn block_in(program: &Module, function: u64, block: u64) -> Option<&Block>
         .get(function as usize)?
         .blocks
         .get(block as usize)
-}
-
-/// The instruction at which a frame stands.
-fn fetch<'a>(program: &'a Module, frame: &Frame) -> Option<&'a Instr>
-    ensures value { option_copied result ≡ instr_at program.now frame.now }
-    ensures within { OnSome result (frame.now.at + 1 < 2 ^ 64) }
-{
-    let function = program.functions.get(frame.function as usize)?;
-    let block = function.blocks.get(frame.block as usize)?;
-    let instr = block.instrs.get(frame.at as usize)?;
-    let _count = block.instrs.len();
-    Some(instr)
 }

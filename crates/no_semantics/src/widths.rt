@@ -3,9 +3,10 @@ ghost use Rattle.no_layout.specs.Orders.{IsWidth};
 ghost use Rattle.no_semantics.specs.Sound.{is_scalar, is_width};
 ghost use Rattle.no_semantics.specs.Values.{bytes_of_width, width_of};
 
-use crate::{Sound, width};
+use crate::Sound;
 use no_eval::cast;
 use no_ir::{CastOp, Ty};
+use no_layout::Layout;
 
 /// The low w bits of a number.
 pub fn narrowed(w: u8, n: u64) -> u64
@@ -40,6 +41,17 @@ pub fn pointer_width(sound: &Sound) -> u8
 }
 
 /// How many bits a value of an integer type or a pointer has.
+pub fn width(layout: &Layout, t: &Ty) -> u8
+    ensures { result ≡ width_of layout.now t.now }
+{
+    match t {
+        Ty::Int(w) => *w,
+        Ty::Ptr => layout.pointer,
+        _ => 0,
+    }
+}
+
+/// The same under the layout of a module that was accepted.
 #[tactic(auto, using(crate::proofs::Scalars::scalar_width, crate::proofs::Scalars::some, crate::proofs::Scalars::most))]
 pub fn width_at(sound: &Sound, t: &Ty) -> u8
     requires { is_scalar t.now ≡ true }
