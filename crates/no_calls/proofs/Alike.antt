@@ -10,10 +10,10 @@ use Rattle.no_calls.specs.Calling.{MayCall}
 use Rattle.no_calls.specs.Links.{Calls, IsGraphOf, Links}
 use Rattle.no_calls.specs.Nearest.{AreNearest}
 use Rattle.no_calls.specs.Rows.{AreBelow, IsReverse}
-use Rattle.no_calls.specs.Reaching.{IsReached, IsShortest, Path}
+use Rattle.no_calls.specs.Reaching.{IsReached, IsReaching, IsShortest, Path}
 use Rattle.no_calls.specs.Spreading.{IsFound, IsListedTo, Measured, Step, Towards, at}
 use Rattle.no_calls.proofs.Finding.{one}
-use Rattle.no_calls.proofs.Ways.{found_reached, not_reached, reached_found}
+use Rattle.no_calls.proofs.Ways.{bound, found_goal, found_reached, not_reached, reached_found}
 
 module _ (R S : ℕ → ℕ → Type 0) (to : (a b : ℕ) → R a b → S a b) (from : (a b : ℕ) → S a b → R a b) where
   path_to : (q : List ℕ) (a b : ℕ) → Path R a q b → Path S a q b
@@ -94,7 +94,31 @@ module _ (links : Links) (users members : List (Vec ℕ Global)) (turned : IsRev
     pub reached_calls : (f n : ℕ) (far : List (Option ℕ)) (ks : List ℕ) → f < n → Measured (Step links.uses members) (f ∷ []) n far → IsListedTo far (length far) ks → IsReached (MayCall m) f ks
     reached_calls f n far ks lt measured listed = reached_alike (Step links.uses members) (MayCall m) to_calls from_calls f ks (reached_is (Step links.uses members) f n far ks lt measured listed)
 
+-- the numbers that were found are those that reach a goal
+reaching_is : (R : ℕ → ℕ → Type 0) (goals : List ℕ) (n : ℕ) (far : List (Option ℕ)) (ks : List ℕ) (m : Measured (λ k a. R a k) goals n far) (below : (a k : ℕ) → R a k → k < n) → IsListedTo far (length far) ks → IsReaching R goals n ks
+reaching_is R goals n far ks m below listed = record {
+  rising = listed.rising;
+  all = λ k g lt goal (way, path).
+      let (d, e, small) = bound R goals n far m below way k g lt goal path in
+      listed.all k (found_within far k (d, e)) (d, e);
+  only = λ k h. let (d, e) = (listed.only k h).1 in found_goal R goals n far m below d k e;
+}
+
+reaching_alike : (R S : ℕ → ℕ → Type 0) (to : (a b : ℕ) → R a b → S a b) (from : (a b : ℕ) → S a b → R a b) (goals : List ℕ) (n : ℕ) (ks : List ℕ) → IsReaching R goals n ks → IsReaching S goals n ks
+reaching_alike R S to from goals n ks r = record {
+  rising = r.rising;
+  all = λ k g lt goal (q, path). r.all k g lt goal (q, path_from R S to from q k g path);
+  only = λ k h. let (g, goal, (q, path)) = r.only k h in (g, goal, (q, path_to R S to from q k g path));
+}
+
 -- ---- the answers of a graph
+
+pub reaching_answer : (m : Module) (links : Links) (users members : List (Vec ℕ Global)) (goals : List ℕ) (far lent : List (Option ℕ)) (ks : List ℕ) → IsReverse links.uses users → IsReverse links.within members → IsGraphOf m links
+    → Towards links.uses members goals far → lent ≡ far → IsListedTo lent (length lent) ks → IsReaching (MayCall m) goals (length m.functions) ks
+reaching_answer m links users members goals far lent ks turned filled is t same listed =
+    subst (λ (n : ℕ). IsReaching (MayCall m) goals n ks) is.callers
+    (reaching_alike (Step links.uses members) (MayCall m) (to_calls links users members turned filled m is) (from_calls links users members turned filled m is) goals (length links.uses) ks
+    (reaching_is (Step links.uses members) goals (length links.uses) far ks t.measured t.below (subst (λ (l : List (Option ℕ)). IsListedTo l (length l) ks) same listed)))
 
 pub reaches_answer : (m : Module) (links : Links) (users members up down : List (Vec ℕ Global)) (f : ℕ) (far lent : List (Option ℕ)) (ks : List ℕ) → IsReverse links.uses users → IsReverse links.within members → IsGraphOf m links → up ≡ links.uses → down ≡ members
     → f < length links.uses → Measured (Step up down) (f ∷ []) (length up) far → lent ≡ far → IsListedTo lent (length lent) ks → IsReached (MayCall m) f ks

@@ -92,6 +92,17 @@ module _ (R : ℕ → ℕ → Type 0) (goals : List ℕ) (n : ℕ) (far : List (
   pub not_reached : (a : ℕ) → a < n → at far a ≡ None → IsShortest R goals a None
   not_reached a lt none g goal (q, path) = let (e, here, small) = bound q a g lt goal path in none-some e (sym none ∙ here)
 
+  -- a number that was found reaches a goal
+  pub found_goal : (d a : ℕ) → at far a ≡ Some d → (g : ℕ) × Contains goals g × Reaches R a g
+  found_goal zero a e = (a, m.first a e, ([], refl))
+  found_goal (suc d) a e =
+      let (c, step, there) = m.back a d (e ∙ ap Some (plus d)) in
+      let (g, goal, (way, path)) = found_goal d c there in
+      (g, goal, (c ∷ way, (step, path)))
+    where
+      plus : (k : ℕ) → suc k ≡ k + 1
+      plus k = omega arith
+
 -- ---- all that a number reaches
 
 path_more : (R : ℕ → ℕ → Type 0) (way : List ℕ) (a b c : ℕ) → Path R a way b → R b c → Path R a (way ++ c ∷ []) c

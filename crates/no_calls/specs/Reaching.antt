@@ -21,6 +21,12 @@ pub record IsReached (R : ℕ → ℕ → Type 0) (a : ℕ) (ks : List ℕ) : Ty
   pub all : (k : ℕ) → Reaches R a k → Contains ks k
   pub only : (k : ℕ) → Contains ks k → Reaches R a k
 
+-- all numbers below n that reach one of the goals, rising
+pub record IsReaching (R : ℕ → ℕ → Type 0) (goals : List ℕ) (n : ℕ) (ks : List ℕ) : Type 0 where
+  pub rising : IsRising ks
+  pub all : (k g : ℕ) → k < n → Contains goals g → Reaches R k g → Contains ks k
+  pub only : (k : ℕ) → Contains ks k → (g : ℕ) × Contains goals g × Reaches R k g
+
 -- the order of lists of numbers: a list, and one that does not come before it
 abbrev pub IsUpTo : List ℕ → List ℕ → Type 0
 IsUpTo [] q = Unit {0}

@@ -2,7 +2,7 @@ ghost use Rattle.std.specs.Prelude.{◌≡◌, ℕ, ◌<◌, ◌^◌, List, IfOk
 ghost use Rattle.no_ir.specs.declared.function.Module.{Module as Program};
 ghost use Rattle.no_calls.specs.Calling.{MayCall};
 ghost use Rattle.no_calls.specs.Links.{Calls, IsGraphOf};
-ghost use Rattle.no_calls.specs.Reaching.{IsReached, IsShortest};
+ghost use Rattle.no_calls.specs.Reaching.{IsReached, IsReaching, IsShortest};
 
 use crate::nearest::nearest_all;
 use crate::reached::{listed, walk};
@@ -80,6 +80,27 @@ impl Graph {
             within,
             members,
         })
+    }
+
+    /// How many functions the module has.
+    pub fn len(&self) -> usize
+        ensures { result ≡ length self.now.uses }
+    {
+        self.uses.len()
+    }
+
+    /// The functions that reach one of the goals, rising; a goal reaches itself.
+    pub fn reaching(&self, goals: &[u32]) -> Result<List<u32>, NoMemory>
+        ensures { (m : Program) → IsGraphOf m self.now → IfOk result (IsReaching (MayCall m) goals.now (length m.functions)) }
+    {
+        let far = spread(
+            self.alloc,
+            self.within.as_slice(),
+            self.users.as_slice(),
+            goals,
+        )?;
+        let all = listed(self.alloc, far.as_slice())?;
+        Ok(all)
     }
 
     /// The functions that a function reaches, rising: itself, those that it may call, and all that these reach.

@@ -1,5 +1,6 @@
 -- Whether a function may move to a server: the first rule that keeps it on the device, with the path along which the reason lies.
-use Rattle.std.specs.Prelude.{◌≡◌, ℕ, ◌+◌, ◌<◌, ◌≤◌, true, false, bytes_eq, if◌then◌else◌, List, [], ◌∷◌, length, map, slice_get, Option, Some, None}
+use Rattle.std.specs.Prelude.{◌≡◌, ℕ, ◌+◌, ◌<◌, ◌≤◌, Bool, true, false, not, ◌&&◌, nat_le, bytes_eq, if◌then◌else◌, List, [], ◌∷◌, length, map, slice_get, slice_index_or, Option, Some, None}
+use Rattle.std.specs.List.{Contains}
 use Rattle.no_ir.specs.declared.function.Function.{Function}
 use Rattle.no_ir.specs.declared.function.Module.{Module}
 use Rattle.no_layout.specs.declared.layout.Layout.{Layout}
@@ -82,3 +83,25 @@ IsVerdictOf m name server (Some f) verdict = IsOf m name server f verdict
 -- the verdict on a name
 abbrev pub IsVerdict : Accepted → List ℕ → Layout → Verdict → Type 0
 IsVerdict m name server verdict = IsVerdictOf m name server (named_from name 0 m.«module».functions) verdict
+
+-- ---- all functions at once
+
+-- no rule holds of function k
+abbrev pub IsFree : Accepted → Layout → ℕ → Type 0
+IsFree m server k = IsSpared m.«module» k × ((g : Function) × (slice_get m.«module».functions k ≡ Some g) × IsAlone m.layout server [] k g (Free k))
+
+-- no rule holds of function g itself
+abbrev pub passes : Layout → Layout → Function → Bool
+passes device server g = not (is_declared g) && (nat_le device.pointer server.pointer && nat_le (length g.params) 64)
+
+-- flags after those of these numbers were cleared
+pub record Cleared (ks : List ℕ) (old new : List Bool) : Type 0 where
+  pub set' : (k : ℕ) → slice_index_or new k false ≡ true → slice_index_or old k false ≡ true
+  pub off : (k : ℕ) → Contains ks k → slice_index_or new k false ≡ false
+  pub kept : (k : ℕ) → (Contains ks k → ⊥) → slice_index_or new k false ≡ slice_index_or old k false
+
+-- for each function whether no rule holds of it
+pub record AreFree (m : Accepted) (server : Layout) (flags : List Bool) : Type 0 where
+  pub wide : length flags ≡ length m.«module».functions
+  pub free : (k : ℕ) → slice_index_or flags k false ≡ true → IsFree m server k
+  pub bound : (k : ℕ) → IsFree m server k → slice_index_or flags k false ≡ true

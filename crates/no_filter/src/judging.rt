@@ -3,16 +3,13 @@ ghost use Rattle.no_calls.specs.Links.{IsGraphOf};
 ghost use Rattle.no_filter.specs.Verdicts.{Answers, IsAlone, IsOf, IsReached, IsVerdict, name_in, named_from, names_of};
 
 use crate::reasons::{inputs, pinned, volatiles};
-use crate::rules::{Rule, Verdict};
+use crate::rules::{MOST_PARAMETERS, Rule, Verdict};
 use no_calls::Graph;
 use no_ir::{Bytes, Function, List, Module, NoMemory};
 use no_layout::Layout;
 use no_module::is_declared;
 use no_semantics::Sound;
 use std::alloc::Global;
-
-/// How many parameters a function that moves may have.
-const MOST_PARAMETERS: usize = 64;
 
 fn copy_of(alloc: Global, name: &[u8]) -> Result<Bytes, NoMemory>
     ensures { IfOk result (λ copy. copy ≡ name.now) }

@@ -1,5 +1,8 @@
 use no_ir::{Bytes, List};
 
+/// How many parameters a function that moves may have.
+pub(crate) const MOST_PARAMETERS: usize = 64;
+
 /// Why a function stays on the device. The first rule that holds counts, in this order.
 #[derive(Clone, Copy, Debug, PartialEq, Eq)]
 pub enum Rule {
