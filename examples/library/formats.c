@@ -198,7 +198,7 @@ static void streams(void) {
         n += fprintf(stdout, "%x,%o;", (unsigned)k, (unsigned)k);
         n += fprintf(stderr, "unseen %d\n", k);
     }
-    for (int k = 0; k < 1000; k++) {
+    for (int k = 0; k < 1300; k++) {
         const char *format = k % 3 ? "%d:%s%c" : "%5d,%-3s%c";
         n += printf(format, k, k % 7 ? "" : "seven", k % 20 == 19 ? '\n' : ' ');
         n += fprintf(k % 5 ? stdout : stderr, format, -k, "-", '.');

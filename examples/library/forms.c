@@ -1,6 +1,7 @@
 /* Forms of C whose LLVM text the profile leaves out, and that from-c lowers: each line of output is one of them. */
 #include <stdint.h>
 #include <stdio.h>
+#include <stdlib.h>
 #include <string.h>
 
 static _Thread_local int own = 5;
@@ -104,6 +105,14 @@ int thrice(int n) { return 3 * n; }
 int other_name(int n) __attribute__((alias("thrice")));
 static int number = 5;
 static const char *const kept __attribute__((used)) = "kept";
+__attribute__((weak)) extern int absent(int);
+__attribute__((weak)) extern int nothing;
+__attribute__((destructor)) static void at_last(void) { puts("at last"); }
+static void first_registered(void) { puts("registered first"); }
+static void registered(void) {
+    printf("registered %d\n", number);
+    atexit(first_registered);
+}
 __attribute__((constructor(300))) static void second(void) { number = number * 2 + 1; }
 __attribute__((constructor(200))) static void first(void) { number += 10; }
 extern int other_number __attribute__((alias("number")));
@@ -129,10 +138,14 @@ int main(int argc, char **argv) {
         printf("%s ", name((int)(x >> k & 7)));
     printf("%d\n", argc > 100 ? argv[0][0] : 0);
     int (*volatile named)(int) = other_name;
+    printf("%d %d\n", absent ? absent(3) : 4, &nothing ? nothing : 5);
+    atexit(registered);
     other_number++;
     printf("%d %d %d\n", other_name(4), named(5), number);
     printf("%d %d\n", interpreted((const unsigned char[]){0, 1, 2, 1, 3}, (int)(x & 15)), at_once(6));
     if (x == 1)
         __builtin_trap();
-    return (int)(x & 127);
+    if (argc < 100)
+        exit((int)(x & 127));
+    return 0;
 }

@@ -86,6 +86,7 @@ static void writing(void) {
     for (int k = 0; k < 1000; k++) {
         called(setvbuf(stdout, NULL, _IOFBF, BUFSIZ));
         setbuf(stderr, NULL);
+        perror("unseen");
         called(fflush(NULL));
     }
     report("buffers");

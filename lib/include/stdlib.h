@@ -25,6 +25,8 @@ void free(void *block);
 _Noreturn void exit(int status);
 _Noreturn void abort(void);
 
+int atexit(void (*function)(void));
+
 void *realloc(void *block, size_t n);
 void *reallocarray(void *block, size_t count, size_t n);
 

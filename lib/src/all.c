@@ -1,6 +1,7 @@
 /* The library as one source, for from-c. */
 #include "blocks.c"
 #include "ctype.c"
+#include "ends.c"
 #include "formats.c"
 #include "memory.c"
 #include "numbers.c"

@@ -159,9 +159,10 @@ class Build:
         if asks(read(text)):
             text = self.linked([text, library], "-only-needed")
         lines = read(text)
-        if lower.is_sized(lines):
-            text = self.file("sized")
-            write(text, lower.sized(lines, self.size))
+        if lower.is_sized(lines) or lower.has_exits(lines):
+            lines = lower.sized(lines, self.size) if lower.is_sized(lines) else lines
+            text = self.file("rewritten")
+            write(text, lower.ended(lines) if lower.has_exits(lines) else lines)
             text = self.linked([text, library], "-only-needed")
         lines = widths.kept(read(text), self.target == "mips", "wider")
         lines, text = lower.lowered(lines, self.size), self.file("lowered")

@@ -220,5 +220,25 @@ def sized(lines, size):
     return out + [f"declare {it.replace('iS', size)}" for name, it in BLOCKS.items() if not re.search(rf"^(declare|define) .*@__sized_{name}\(", said, re.M)]
 
 
+def has_exits(lines):
+    return any(re.match(r"define .*@atexit\(", line) for line in lines)
+
+
+def ended(lines):
+    """Where atexit is used, main and exit call what was registered."""
+    out, inside = [], None
+    for line in lines:
+        if line.startswith("define "):
+            inside = re.search(rf"@({NAME})\(", line)[1]
+        if inside != "__exit" and not line.startswith("declare "):
+            line = re.sub(r"@exit(?![-\w$.])", "@__exit", line)
+        if inside == "main" and line.startswith("  ret "):
+            out.append("  call void @__run_exits()" + "".join(re.findall(r", !dbg !\d+$", line)))
+        out.append(line)
+    said = "\n".join(out)
+    needed = ("void @__run_exits()", "void @__exit(i32)")
+    return out + [f"declare {it}" for it in needed if not re.search(rf"^(declare|define) .*{re.escape(it.split(' ')[1].split('(')[0])}\(", said, re.M)]
+
+
 def lowered(lines, size):
     return Lowering(aggregates.scalar(named(lines), size), size).done()

@@ -1,5 +1,6 @@
 """Other names of definitions, labels as values, and functions that run before main: an alias gives way to what it names, the address
-of a label is a number, by which a `goto` to an address chooses among the labels, and main begins with calls of constructors."""
+of a label is a number, by which a `goto` to an address chooses among the labels, a weak declaration is null, and main begins with
+calls of constructors."""
 import re
 
 from text import ATTACHED, LABEL, NAME
@@ -46,18 +47,35 @@ def with_numbers(lines, size):
     return out
 
 
+def listed(lines, name):
+    """The functions of a list of what runs before or after main, in the order of their priorities."""
+    found = [it for line in lines if line.startswith(f"@llvm.global_{name} ") for it in re.findall(rf"{{ i32 (\d+), ptr (@{NAME}), ptr [^ ]+ }}", line)]
+    return [function for _, function in sorted(found, key=lambda it: int(it[0]))]
+
+
 def constructed(lines):
-    """The lines without lists of what is kept, and with calls of the constructors in main, in the order of their priorities."""
-    lines = [line for line in lines if not line.startswith(("@llvm.used ", "@llvm.compiler.used "))]
-    at = next((k for k, line in enumerate(lines) if line.startswith("@llvm.global_ctors ")), None)
+    """The lines without lists of what is kept, and with calls of the constructors at the beginning of main. Destructors are
+    registered there."""
+    before, after = listed(lines, "ctors"), listed(lines, "dtors")
+    lines = [line for line in lines if not line.startswith(("@llvm.used ", "@llvm.compiler.used ", "@llvm.global_ctors ", "@llvm.global_dtors "))]
     main = next((k for k, line in enumerate(lines) if re.match(r"define [^@]*@main\(", line)), None)
-    if at is None or main is None:
+    if main is None or not before + after:
         return lines
-    found = re.findall(rf"{{ i32 (\d+), ptr (@{NAME}), ptr [^ ]+ }}", lines[at])
-    calls = [f"  call void {name}()" for _, name in sorted(found, key=lambda it: int(it[0]))]
+    calls = [f"  %registered.{k} = call i32 @atexit(ptr {name})" for k, name in enumerate(after)] + [f"  call void {name}()" for name in before]
     first = main + 2 if LABEL.match(lines[main + 1]) else main + 1
-    return lines[:at] + lines[at + 1 : first] + calls + lines[first:]
+    known = any(re.match(r"(declare|define) [^@]*@atexit\(", line) for line in lines)
+    return lines[:first] + calls + lines[first:] + ([] if known or not after else ["declare i32 @atexit(ptr)"])
+
+
+def without_weak(lines):
+    """Weak declarations of what no file defines are null."""
+    found = {it[1] for it in (re.match(rf"(?:declare [^@]*\bextern_weak [^@]*@|@)({NAME})(?:\(| = extern_weak )", line) for line in lines) if it}
+    if not found:
+        return lines
+    pattern = re.compile(rf'"[^"]*"|@({"|".join(map(re.escape, found))})(?![-\w$.])')
+    kept = [line for line in lines if "extern_weak " not in line or not line.startswith(("declare ", "@"))]
+    return [pattern.sub(lambda it: "null" if it[1] else it[0], line) for line in kept]
 
 
 def plain(lines, size):
-    return with_numbers(without_aliases(constructed(lines)), size)
+    return with_numbers(without_aliases(without_weak(constructed(lines))), size)
