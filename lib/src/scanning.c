@@ -1,4 +1,5 @@
-/* scanf and its kin, on the input or on a text. A conversion that the library doesn't have ends the run. */
+/* scanf and its kin, on the input or on a text. A conversion that the library doesn't have ends the run. Digits are read as in
+   numbers.c, and what stands in front of a conversion's letter as in printing.c. */
 #include <ctype.h>
 #include <stdarg.h>
 #include <stdio.h>
