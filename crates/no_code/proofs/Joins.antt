@@ -127,7 +127,7 @@ module _ (s : Source) (g : Function) (f : Frame) where
       })
 
   -- the edge to a block
-  pub edge_to_stays : (a mid new : Code) (edge : Edge) (to e b : ℕ) (block : Block) → slice_get g.blocks b ≡ Some block → (to < length g.labels → Some b ≡ block_of g to) → PutsMoves s g f a mid (phis block.instrs)
+  pub edge_to_stays : (a mid new : Code) (edge : Edge) (to e b : ℕ) (block : Block) → slice_get g.blocks b ≡ Some block → Some b ≡ block_of g to → PutsMoves s g f a mid (phis block.instrs)
       → new ≡ record mid { edges = mid.edges ++ edge ∷ [] } → e ≡ length mid.edges → edge.from ≡ length a.moves → edge.to ≡ length mid.moves
       → edge.target ≡ f.base + before g.blocks b + length mid.moves - length a.moves → GrowsEdge a new × EdgeStays s g f new to e
   edge_to_stays a mid new edge to e b block found leads p put at first last target =
@@ -142,7 +142,7 @@ module _ (s : Source) (g : Function) (f : Frame) where
             record {
               edge = edge;
               is = stays_at new.edges later.edges e edge r.edges (ap (λ (x : Code). slice_get x.edges e) put ∙ ap (λ (n : ℕ). slice_get (mid.edges ++ edge ∷ []) n) at ∙ last_at mid.edges edge);
-              leads = λ lt. subst (λ (o : Option ℕ). LeadsTo s f.registers later g f.base f.label o edge) (leads lt)
+              leads = subst (λ (o : Option ℕ). LeadsTo s f.registers later g f.base f.label o edge) leads
                   (subst (λ (o : Option Block). Rattle.no_code.specs.Coded.LeadsIn s f.registers later g f.base f.label b o edge) (sym found) (
                     p.moves,
                     aim,
@@ -157,13 +157,13 @@ module _ (s : Source) (g : Function) (f : Frame) where
   leads_nowhere later (Some b) edge none target empty = subst (λ (o : Option Block). Rattle.no_code.specs.Coded.LeadsIn s f.registers later g f.base f.label b o edge) (sym none) (target, empty)
 
   -- the edge to a label that no block has
-  pub edge_nowhere_stays : (a new : Code) (edge : Edge) (to e : ℕ) → (to < length g.labels → block_found g (block_of g to) ≡ None)
+  pub edge_nowhere_stays : (a new : Code) (edge : Edge) (to e : ℕ) → block_found g (block_of g to) ≡ None
       → new ≡ record a { edges = a.edges ++ edge ∷ [] } → e ≡ length a.edges → edge.target ≡ 0 → edge.from ≡ edge.to → GrowsEdge a new × EdgeStays s g f new to e
   edge_nowhere_stays a new edge to e none put at target empty = (
     edge_grows a a new edge [] (moves_none a []) put,
     λ later r. record {
       edge = edge;
       is = stays_at new.edges later.edges e edge r.edges (ap (λ (x : Code). slice_get x.edges e) put ∙ ap (λ (n : ℕ). slice_get (a.edges ++ edge ∷ []) n) at ∙ last_at a.edges edge);
-      leads = λ lt. leads_nowhere later (block_of g to) edge (none lt) target empty;
+      leads = leads_nowhere later (block_of g to) edge none target empty;
     },
   )

@@ -1,5 +1,5 @@
 -- Cells of values stay right while tables grow.
-use Rattle.std.proofs.Common.{◌≡◌, ℕ, true, Option, Some, None, Bool, sym, ap, subst}
+use Rattle.std.proofs.Common.{◌≡◌, ◌<◌, ℕ, true, Option, Some, None, Bool, sym, ap, subst}
 use Rattle.no_ir.specs.declared.types.Ty.{Ty}
 use Rattle.no_ir.specs.declared.instruction.BinOp.{BinOp}
 use Rattle.no_ir.specs.declared.instruction.BinOp.TheVariants as bin
@@ -18,7 +18,7 @@ use Rattle.no_code.specs.declared.code.Code.{Code}
 use Rattle.no_code.specs.declared.frame.Frame.{Frame}
 use Rattle.no_layout.specs.Sizes.{type_align, type_stride}
 use Rattle.no_semantics.specs.Image.{stated_or}
-use Rattle.no_semantics.specs.Sound.{type_fits}
+use Rattle.no_semantics.specs.Sound.{align_fits, type_fits}
 use Rattle.no_code.specs.Coded.{IsBinary, IsCompare, IsCast, IsCell, IsCount}
 use Rattle.no_code.specs.Longer.{Adds, Longer}
 use Rattle.no_code.specs.Making.{Grows, Stays, binary_cell, compare_cell, cast_cell}
@@ -125,6 +125,6 @@ module _ (s : Source) (g : Function) (f : Frame) (i : Instr) where
     count_kept later r (Some count) x is = kept later r count.0 count.1 x is
 
     pub alloca_stays : (t : Ty) (count : Option (ℕ × Operand)) (stated : Option ℕ) (into x stride align : ℕ) → i.op ≡ op.Alloca t count stated → IsInto f.registers i.result into → IsCount s f.registers new count x
-        → (type_fits s.layout s.sizes t ≡ true → stride ≡ type_stride s.layout s.sizes t) → (type_fits s.layout s.sizes t ≡ true → align ≡ stated_or stated (type_align s.layout s.sizes t)) → Stays s g f new i (cell.Alloca into x stride align)
-    alloca_stays t count stated into x stride align is result many apart aligned later r =
-        record { t = t; count = count; stated = stated; is = is; result = result; many = count_kept later r count x many; apart = apart; aligned = aligned }
+        → (type_fits s.layout s.sizes t ≡ true → stride ≡ type_stride s.layout s.sizes t) → (type_fits s.layout s.sizes t ≡ true → align ≡ stated_or stated (type_align s.layout s.sizes t)) → (align_fits stated ≡ true → 0 < align) → Stays s g f new i (cell.Alloca into x stride align)
+    alloca_stays t count stated into x stride align is result many apart aligned some later r =
+        record { t = t; count = count; stated = stated; is = is; result = result; many = count_kept later r count x many; apart = apart; aligned = aligned; some = some }

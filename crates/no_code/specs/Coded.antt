@@ -22,7 +22,7 @@ use Rattle.no_ir.specs.declared.function.Function.{Function}
 use Rattle.no_layout.specs.Sizes.{HasField, type_align, type_stride, offset_of}
 use Rattle.no_semantics.specs.Image.{stated_or}
 use Rattle.no_semantics.specs.Indices.{resolved}
-use Rattle.no_semantics.specs.Sound.{field_number, known_part, type_fits}
+use Rattle.no_semantics.specs.Sound.{align_fits, field_number, known_part, type_fits}
 use Rattle.no_semantics.specs.Values.{width_of}
 use Rattle.no_code.specs.declared.code.Argument.{Argument}
 use Rattle.no_code.specs.declared.code.Case.{Case}
@@ -204,6 +204,7 @@ module _ (s : Source) (n : ℕ) (code : Code) where
     pub many : IsCount count x
     pub apart : type_fits s.layout s.sizes t ≡ true → stride ≡ type_stride s.layout s.sizes t
     pub aligned : type_fits s.layout s.sizes t ≡ true → align ≡ stated_or stated (type_align s.layout s.sizes t)
+    pub some : align_fits stated ≡ true → 0 < align
 
   pub record IsLoad (w into x : ℕ) (i : Instr) : Type 0 where
     pub volatile : Bool
@@ -324,7 +325,7 @@ module _ (s : Source) (n : ℕ) (code : Code) where
     pub record IsEdge (to e : ℕ) : Type 0 where
       pub edge : Edge
       pub is : slice_get code.edges e ≡ Some edge
-      pub leads : to < length g.labels → LeadsTo (block_of g to) edge
+      pub leads : LeadsTo (block_of g to) edge
 
     pub record IsBr (e : ℕ) (i : Instr) : Type 0 where
       pub to : ℕ

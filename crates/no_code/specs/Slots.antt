@@ -11,7 +11,7 @@ first_constant = 2 ^ 31
 -- the slot of a result among n registers: that of its register, or the one behind them all where there is no such register
 abbrev pub IsInto : ℕ → Option ℕ → ℕ → Type 0
 IsInto n None x = x ≡ n
-IsInto n (Some r) x = (x ≤ n) × (r < n → x ≡ r)
+IsInto n (Some r) x = (r < n → x ≡ r) × (n ≤ r → x ≡ n)
 
 -- a constant of w bits has this slot
 pub record HasConstant (s : Source) (constants : List ℕ) (w : ℕ) (c : Rattle.no_ir.specs.declared.constant.Const.Const) (x : ℕ) : Type 0 where

@@ -98,14 +98,30 @@ fn moves(
     Ok(())
 }
 
-/// The first block of a label.
-fn block_of(g: &Function, labels: &[Option<u32>], to: u32) -> Option<u32>
-    requires { AreLabels g.now labels.now }
-    ensures { to < length g.now.labels → result ≡ block_of g.now to }
+/// The first block of a label that the function doesn't name; a function that was read has none.
+fn unnamed(g: &Function, to: u32) -> Result<Option<u32>, NoMemory>
+    ensures { IfOk result (λ b. b ≡ block_of g.now to) }
 {
-    match labels.get(to as usize) {
-        Some(block) => *block,
-        None => None,
+    for (index, block) in g.blocks.as_slice().iter().enumerate() {
+        if block.label == to {
+            return Ok(Some(small(index)?));
+        }
+    }
+    Ok(None)
+}
+
+/// The first block of a label.
+fn block_of(g: &Function, labels: &[Option<u32>], to: u32) -> Result<Option<u32>, NoMemory>
+    requires { AreLabels g.now labels.now }
+    ensures { IfOk result (λ b. b ≡ block_of g.now to) }
+{
+    if (to as usize) < g.labels.len() {
+        match labels.get(to as usize) {
+            Some(block) => Ok(*block),
+            None => Ok(None),
+        }
+    } else {
+        unnamed(g, to)
     }
 }
 
@@ -137,7 +153,7 @@ fn edge_nowhere(
     code: &mut Code,
     to: u32,
 ) -> Result<u32, NoMemory>
-    requires nowhere { to < length g.now.labels → block_found g.now (block_of g.now to) ≡ None }
+    requires nowhere { block_found g.now (block_of g.now to) ≡ None }
     ensures { IfOk result (λ e. GrowsEdge code.old code.new × EdgeStays (source from.entry.program.now from.entry.layout.now from.entry.sizes.now from.entry.addresses.now) g.now frame code.new to e) }
 {
     let at = small(code.moves.len())?;
@@ -165,7 +181,7 @@ fn edge_to(
     requires table { table_holds from.layout.now from.sizes.now 0 from.program.now.types ≡ true }
     requires starts { AreStarts g.now frame.base starts.now }
     requires is { slice_get g.now.blocks b ≡ Some block.now }
-    requires leads { to < length g.now.labels → Some b ≡ block_of g.now to }
+    requires leads { Some b ≡ block_of g.now to }
     ensures { IfOk result (λ e. GrowsEdge code.old code.new × EdgeStays (source from.entry.program.now from.entry.layout.now from.entry.sizes.now from.entry.addresses.now) g.now frame code.new to e) }
 {
     let first = small(code.moves.len())?;
@@ -197,7 +213,7 @@ pub(crate) fn edge(
     requires starts { AreStarts g.now frame.base blocks.starts.now }
     ensures { IfOk result (λ e. GrowsEdge code.old code.new × EdgeStays (source from.entry.program.now from.entry.layout.now from.entry.sizes.now from.entry.addresses.now) g.now frame code.new to e) }
 {
-    match block_of(g, blocks.labels, to) {
+    match block_of(g, blocks.labels, to)? {
         Some(b) => match g.blocks.get(b as usize) {
             Some(block) => edge_to(from, g, blocks.starts, frame, code, to, b, block),
             None => edge_nowhere(from, g, frame, code, to),

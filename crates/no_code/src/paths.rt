@@ -5,7 +5,7 @@ ghost use Rattle.no_ir.specs.declared.instruction.Op.TheVariants as op;
 ghost use Rattle.no_layout.specs.Text.{is_formed};
 ghost use Rattle.no_layout.specs.Sizes.{HasField, offset_of, type_align, type_stride};
 ghost use Rattle.no_semantics.specs.Image.{stated_or};
-ghost use Rattle.no_semantics.specs.Sound.{field_number, field_of, known_part, operand_number, table_holds, type_fits};
+ghost use Rattle.no_semantics.specs.Sound.{align_fits, field_number, field_of, known_part, operand_number, table_holds, type_fits};
 ghost use Rattle.no_code.specs.Coded.{ArePath, IsCount, IsField, IsIndex, IsPartStep};
 ghost use Rattle.no_code.specs.Longer.{Adds};
 ghost use Rattle.no_code.specs.Making.{Grows, PutsSteps, Stays};
@@ -32,7 +32,8 @@ fn apart(from: From, t: &Ty) -> u32
 /// A stated alignment, or that of the type, where it has a size.
 fn aligned(from: From, t: &Ty, stated: Option<u32>) -> u32
     requires formed { IsTrue (is_formed from.layout.now) }
-    ensures { type_fits from.entry.layout.now from.entry.sizes.now t.now ≡ true → result ≡ stated_or stated (type_align from.entry.layout.now from.entry.sizes.now t.now) }
+    ensures value { type_fits from.entry.layout.now from.entry.sizes.now t.now ≡ true → result ≡ stated_or stated (type_align from.entry.layout.now from.entry.sizes.now t.now) }
+    ensures some { align_fits stated ≡ true → 0 < result }
 {
     match stated {
         Some(align) => align,

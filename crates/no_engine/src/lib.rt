@@ -1,0 +1,32 @@
+//! The machine over decoded cells: it runs a program whose instructions were decoded once.
+#![tactic(auto)]
+
+mod access;
+mod act;
+mod begin;
+mod calls;
+mod did;
+mod edges;
+mod facts;
+mod frame;
+mod invoke;
+mod machine;
+mod out;
+mod outside;
+mod paths;
+mod pointer;
+mod serve;
+mod slots;
+mod spin;
+mod state;
+mod step;
+mod tables;
+mod turn;
+mod values;
+
+pub use facts::Facts;
+pub use machine::{Machine, Ran};
+pub use out::Out;
+pub use state::Core;
+pub use tables::{declared_of, externals_of};
+pub use turn::Stop;
