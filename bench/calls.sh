@@ -11,7 +11,7 @@ done
 folder=$(mktemp -d)
 trap 'rm -rf "$folder"' EXIT
 mkdir -p "$folder/crates/calls_bench/src"
-crates="no_ir no_module no_layout no_room no_eval no_heap no_typing no_semantics no_taken no_calls"
+crates="no_ir no_module no_layout no_room no_eval no_heap no_verify_types no_semantics no_taken no_calls"
 for crate in $crates; do
   cp -r "crates/$crate" "$folder/crates/"
   grep "^$crate:" crates.txt >>"$folder/crates.txt"

@@ -2,7 +2,7 @@
 use Rattle.std.proofs.Common.{◌≡◌, ℕ, ◌≤◌, Bool, true, false, List, [], ◌∷◌, None, refl, arith}
 use Rattle.std.specs.Prelude.{◌+◌, ◌-◌, ◌*◌, ◌&&◌, nat_le, if◌then◌else◌, IfSome}
 use Rattle.std.proofs.lemmas.Bool.{leb-true}
-use Rattle.no_grammar.specs.Numbers.{number_from, decimal}
+use Rattle.no_read_rules.specs.Numbers.{number_from, decimal}
 
 number_within : (most : ℕ) (xs : List ℕ) (sum : ℕ) → sum ≤ most → IfSome (number_from most xs sum) (λ n. n ≤ most)
 number_within most [] sum le = le

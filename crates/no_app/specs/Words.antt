@@ -1,6 +1,6 @@
 -- The words of the command line: which lists of words ask for a job.
 use Rattle.std.specs.Prelude.{◌≡◌, ℕ, Bool, true, false, nat_le, if◌then◌else◌, List, [], ◌∷◌, length, take, drop, Option, Some, None, unwrap_or, codes, bytes_eq}
-use Rattle.no_grammar.specs.Numbers.{decimal}
+use Rattle.no_read_rules.specs.Numbers.{decimal}
 
 infixl 10 ◌>>=◌
 -- a step that may refuse, and then the next

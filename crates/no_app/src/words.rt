@@ -3,8 +3,8 @@ ghost use Rattle.std.specs.Option.{option_copied};
 ghost use Rattle.no_app.specs.Requests.{request_of, heard_of};
 ghost use Rattle.no_app.specs.Words.{Finds, number_of, with_budget, budget_of, hear_value, hear_option, hear_word, hear, scanned, asked_of, finished};
 
-use no_grammar::decimal;
 use no_ir::Text;
+use no_read_rules::decimal;
 use std::convert::AsStr;
 
 /// What the words ask for: a file, and a budget of instructions.

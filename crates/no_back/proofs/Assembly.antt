@@ -5,12 +5,12 @@ use Rattle.no_ir.specs.declared.function.Module.{Module}
 use Rattle.no_ir.specs.declared.function.Role.{Role}
 use Rattle.no_ir.specs.declared.types.Ty.{Ty}
 use Rattle.no_lex.specs.declared.token.Token.{Token}
-use Rattle.no_grammar.specs.Scope.{Meaning}
-use Rattle.no_types.specs.Lifted.{Lifts}
-use Rattle.no_types.specs.declared.lifted.Lifted.{Lifted}
-use Rattle.no_scope.specs.Scan.{symbols_in}
-use Rattle.no_modules.specs.Modules.{IsModuleOf}
-use Rattle.no_named.specs.Defined.{names_once}
+use Rattle.no_read_rules.specs.Scope.{Meaning}
+use Rattle.no_read_types.specs.Lifted.{Lifts}
+use Rattle.no_read_types.specs.declared.lifted.Lifted.{Lifted}
+use Rattle.no_read_symbols.specs.Scan.{symbols_in}
+use Rattle.no_read_modules.specs.Modules.{IsModuleOf}
+use Rattle.no_read_names.specs.Defined.{names_once}
 use Rattle.no_read.specs.Knowing.{known_of, meaning_of}
 use Rattle.no_read.specs.Reading.{IsModule, typed}
 use Rattle.no_print.specs.Constants.{Spelled}

@@ -5,16 +5,16 @@ use Rattle.no_ir.specs.declared.types.Ty.{Ty, out-Ty, out-roll-Ty}
 use Rattle.no_ir.specs.declared.types.Ty.TheOpen.{Ty-F}
 use Rattle.no_ir.specs.declared.types.Ty.TheFolds.{fold_out-Ty, map-Ty}
 use Rattle.no_ir.specs.declared.types.Ty.TheVariants.{rolls-Struct}
-use Rattle.no_grammar.specs.declared.fault.Flaw.{Flaw}
-use Rattle.no_grammar.specs.declared.fault.Stopped.{Stopped}
-use Rattle.no_grammar.specs.Scope.{Meaning}
-use Rattle.no_types.specs.declared.definition.Definition.{Definition}
-use Rattle.no_types.specs.declared.definition.Lifting.{Lifting}
-use Rattle.no_types.specs.declared.lifted.Lifted.{Lifted}
-use Rattle.no_types.specs.Graph.{graph_of, order_of, number_of}
-use Rattle.no_types.specs.Lifted.{renumber_step, renumbered, as_list, picked, types_in, Follows, Lifts}
-use Rattle.no_types.specs.Lifting.{struct_in, a_definition, Piece, Kept, Defined, ArePieces, lifting_of, in_types, type_definitions}
-use Rattle.no_types.proofs.LiftLaws.{lift_found}
+use Rattle.no_read_rules.specs.declared.fault.Flaw.{Flaw}
+use Rattle.no_read_rules.specs.declared.fault.Stopped.{Stopped}
+use Rattle.no_read_rules.specs.Scope.{Meaning}
+use Rattle.no_read_types.specs.declared.definition.Definition.{Definition}
+use Rattle.no_read_types.specs.declared.definition.Lifting.{Lifting}
+use Rattle.no_read_types.specs.declared.lifted.Lifted.{Lifted}
+use Rattle.no_read_types.specs.Graph.{graph_of, order_of, number_of}
+use Rattle.no_read_types.specs.Lifted.{renumber_step, renumbered, as_list, picked, types_in, Follows, Lifts}
+use Rattle.no_read_types.specs.Lifting.{struct_in, a_definition, Piece, Kept, Defined, ArePieces, lifting_of, in_types, type_definitions}
+use Rattle.no_read_types.proofs.LiftLaws.{lift_found}
 use Rattle.no_reread.specs.Spells.{WidthFits, TypeFits, TypesFit}
 
 -- ---- structs

@@ -5,7 +5,7 @@
 
 ghost use Rattle.no_back.specs.Back.{PrintedReadBack};
 
-use no_named::names_are_the_modules;
+use no_read_names::names_are_the_modules;
 use no_relex::a_module_lexes;
 use no_relift::definitions_lift_again;
 use no_retop::modules_mean_again;

@@ -10,7 +10,7 @@ use Rattle.no_ir.specs.declared.function.Block.{Block}
 use Rattle.no_ir.specs.declared.function.Function.{Function}
 use Rattle.no_ir.specs.declared.function.Module.{Module}
 use Rattle.no_ir.specs.declared.function.Role.TheVariants.{Source}
-use Rattle.no_typing.specs.Typing.{direct}
+use Rattle.no_verify_types.specs.Typing.{direct}
 use Rattle.no_semantics.specs.Calls.{has_type}
 use Rattle.no_semantics.specs.Taken.{is_callable}
 

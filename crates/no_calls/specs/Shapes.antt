@@ -11,7 +11,7 @@ use Rattle.no_ir.specs.Naming.{is_known}
 use Rattle.no_module.specs.declared.scalar.Scalar.{Scalar}
 use Rattle.no_module.specs.declared.scalar.Scalar.TheVariants as scalar
 use Rattle.no_module.specs.Scalars.{is_void, scalar_of}
-use Rattle.no_typing.specs.Typing.{direct}
+use Rattle.no_verify_types.specs.Typing.{direct}
 use Rattle.no_calls.specs.Calling.{instrs_of}
 
 -- ---- codes: the width of an integer, and below the smallest width or between the smallest two those of what is none

@@ -1,13 +1,13 @@
 ghost use Rattle.std.specs.Prelude.{◌≡◌, ℕ, ◌+◌, ◌<◌, ◌≤◌, ◌^◌, ◌++◌, [], ◌∷◌, ◌&&◌, nat_lt, false, if◌then◌else◌, Some, slice_get, slice_index_or, length, vec_len, IfOk, OnOk};
 ghost use Rattle.std.specs.List.{flat_map};
 ghost use Rattle.no_ir.specs.declared.function.Function.{Function as Definition};
-ghost use Rattle.no_typing.specs.Typing.{direct};
+ghost use Rattle.no_verify_types.specs.Typing.{direct};
 ghost use Rattle.no_calls.specs.Rows.{row};
 ghost use Rattle.no_calls.specs.Shapes.{HasShapes, ShapeAdded, callee_sets, called_sets, function_shape, is_proper, op_sets, sets_of, shape_set};
 
 use crate::shapes::{call_shape, function_shape, is_proper};
 use no_ir::{Function, Instr, Names, NoMemory, Op, Operand, Ty};
-use no_typing::direct;
+use no_verify_types::direct;
 use std::alloc::Global;
 
 /// Adds the set of a shape, behind those of n functions, if there is one.

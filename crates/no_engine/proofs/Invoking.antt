@@ -29,7 +29,7 @@ use Rattle.no_semantics.specs.Spans.{AreHeld}
 use Rattle.no_semantics.specs.States.{State, function_at, put}
 use Rattle.no_semantics.specs.Values.{Program, width_of}
 use Rattle.no_semantics.proofs.Scalars.{most, pointer_width, scalar_width, some}
-use Rattle.no_typing.specs.Typing as typing
+use Rattle.no_verify_types.specs.Typing as typing
 use Rattle.no_code.specs.Coded.{Each, IsArgument, IsCall, IsCallAt, before, block_size, direct, first_cell, total}
 use Rattle.no_code.specs.Slots.{IsInto, first_constant}
 use Rattle.no_code.specs.Whole.{HasHome, IsCode, IsParameter}

@@ -13,7 +13,7 @@ use Rattle.no_ir.specs.declared.function.Role.TheVariants.{Source}
 use Rattle.no_module.specs.declared.external.External.{External}
 use Rattle.no_module.specs.declared.external.External.TheVariants as external
 use Rattle.no_module.specs.Externals.{declared_external}
-use Rattle.no_typing.specs.Typing.{direct, number_of}
+use Rattle.no_verify_types.specs.Typing.{direct, number_of}
 
 -- ---- input
 

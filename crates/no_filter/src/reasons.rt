@@ -1,11 +1,11 @@
 ghost use Rattle.std.specs.Prelude.{◌≡◌, ℕ, ◌-◌, ◌<◌, ◌^◌, ◌++◌, [], ◌∷◌, if◌then◌else◌, IfOk, OnOk, length, slice_get};
 ghost use Rattle.std.specs.List.{list_any};
 ghost use Rattle.no_filter.specs.Reasons.{callee_volatile, external_at, inputs, is_input, is_one, is_true, is_volatile, memory_volatile, op_volatile, pinned, reads_input, those_from, volatiles};
-ghost use Rattle.no_typing.specs.Typing.{number_of};
+ghost use Rattle.no_verify_types.specs.Typing.{number_of};
 
 use no_ir::{Const, Function, Instr, Module, NoMemory, Op, Operand, Role, Ty};
 use no_module::{External, declared_external};
-use no_typing::direct;
+use no_verify_types::direct;
 use std::alloc::Global;
 
 /// Whether it is the declared function that reads a byte of the input.

@@ -12,7 +12,7 @@ use no_ir::{Function, List, NoMemory, Operand, Role, Trap, Ty};
 use no_layout::{Memory, STACK_START};
 use no_module::{Scalar, agree, same_result};
 use no_semantics::Sound;
-use no_typing::direct;
+use no_verify_types::direct;
 use std::alloc::Global;
 use std::mem;
 

@@ -7,7 +7,7 @@ use Rattle.no_ir.specs.declared.instruction.Op.{Op}
 use Rattle.no_ir.specs.declared.instruction.Op.TheVariants as op
 use Rattle.no_ir.specs.declared.instruction.Instr.{Instr}
 use Rattle.no_layout.specs.Memory.{refusal}
-use Rattle.no_paths.specs.Paths.{registers_of, uses, index_uses, argument_uses, count_uses, value_uses}
+use Rattle.no_verify_paths.specs.Paths.{registers_of, uses, index_uses, argument_uses, count_uses, value_uses}
 use Rattle.no_semantics.specs.Registers.{Registers, given, with_front, all_given, operand, operand_of, pointer_of, index_of, argument_of}
 use Rattle.no_semantics.specs.Results.{binary_value, compare_value, cast_value, freeze_value, select_value, gep_value, count_of, alloca_value, load_value, bytes_of_type}
 use Rattle.no_semantics.specs.Rows.{Row, Next, Calling, Goes, Stuck, stuck, charged, unfinished}

@@ -12,7 +12,7 @@ use Rattle.no_module.specs.declared.scalar.Scalar.TheVariants as scalar
 use Rattle.no_module.specs.Externals.{gives as gives', external_of}
 use Rattle.no_module.specs.Functions.{is_declared}
 use Rattle.no_module.specs.Scalars.{same_result, takes}
-use Rattle.no_typing.specs.Typing.{direct}
+use Rattle.no_verify_types.specs.Typing.{direct}
 use Rattle.no_semantics.specs.Registers.{Registers, given}
 use Rattle.no_semantics.specs.Results.{Valued, Number, Traps, NoValue, reading, stack_place, lowered}
 use Rattle.no_semantics.specs.Rows.{stuck}

@@ -16,8 +16,8 @@ use Rattle.no_module.specs.declared.scalar.Scalar.{Scalar}
 use Rattle.no_module.specs.declared.scalar.Scalar.TheVariants as scalar
 use Rattle.no_module.specs.Scalars.{integer, scalar_step, scalar_of, agree, void_step, is_void, same_result}
 use Rattle.no_module.specs.Widths.{is_width}
-use Rattle.no_module.specs.Functions.{is_declared, no_blocks}
-use Rattle.no_paths.specs.Paths.{code_in, code_of, assigns, is_among, is_parameter}
+use Rattle.no_module.specs.Functions.{is_declared, no_read_blocks}
+use Rattle.no_verify_paths.specs.Paths.{code_in, code_of, assigns, is_among, is_parameter}
 use Rattle.no_semantics.specs.Registers.{Registers, given}
 use Rattle.no_semantics.specs.Rows.{plain, trapping}
 use Rattle.no_semantics.specs.States.{Frame, State, function_at, put}
@@ -129,7 +129,7 @@ passes p count width (q ∷ params) (n ∷ ns) rs long fits small =
 
 -- ---- entries
 
-first_block : (blocks : List Block) → no_blocks blocks ≡ false → (b : Block) × (slice_get blocks 0 ≡ Some b)
+first_block : (blocks : List Block) → no_read_blocks blocks ≡ false → (b : Block) × (slice_get blocks 0 ≡ Some b)
 first_block [] e = absurd (true≢false e)
 first_block (b ∷ more) e = (b, refl)
 

@@ -8,7 +8,7 @@ use Rattle.no_ir.specs.declared.instruction.Instr.{Instr}
 use Rattle.no_ir.specs.declared.function.Block.{Block}
 use Rattle.no_ir.specs.declared.function.Function.{Function}
 use Rattle.no_module.specs.Marks.{instr_unmarked, block_unmarked, no_address, function_unmarked, is_unmarked}
-use Rattle.no_paths.specs.Paths.{code_in, code_of}
+use Rattle.no_verify_paths.specs.Paths.{code_in, code_of}
 use Rattle.no_semantics.specs.Acting.{step}
 use Rattle.no_semantics.specs.Rows.{Next, Calling, Goes, Leaves, Ends, Stuck}
 use Rattle.no_semantics.specs.Runs.{Finish, Returned, Ended, Whole, finished, resumed, whole_by, within, Runs, IsFrom}

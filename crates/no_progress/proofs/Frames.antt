@@ -13,7 +13,7 @@ use Rattle.no_ir.specs.declared.instruction.Instr.{Instr}
 use Rattle.no_ir.specs.declared.function.Block.{Block}
 use Rattle.no_ir.specs.declared.function.Function.{Function}
 use Rattle.no_module.specs.Functions.{is_declared}
-use Rattle.no_paths.specs.Paths.{registers_of, uses, phi_uses, pair_use, code_in, code_of, uses_in, uses_at, PathTo, is_result, assigns, assigned, assigned_at}
+use Rattle.no_verify_paths.specs.Paths.{registers_of, uses, phi_uses, pair_use, code_in, code_of, uses_in, uses_at, PathTo, is_result, assigns, assigned, assigned_at}
 use Rattle.no_semantics.specs.Registers.{Registers, given, with_front, operand_of}
 use Rattle.no_semantics.specs.States.{Frame, function_at, instr_at, put, put_into, moved, assigned as given_result}
 use Rattle.no_semantics.specs.Control.{Move, taken, with_register, phi_moves, one_more, phi_count, put_all}

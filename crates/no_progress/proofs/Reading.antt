@@ -6,7 +6,7 @@ use Rattle.std.proofs.lemmas.List.Elements.{Contains-append_left, Contains-appen
 use Rattle.no_ir.specs.declared.constant.Const.{Const}
 use Rattle.no_ir.specs.declared.instruction.Operand.{Operand}
 use Rattle.no_ir.specs.declared.instruction.Operand.TheVariants as operand
-use Rattle.no_paths.specs.Paths.{registers_of}
+use Rattle.no_verify_paths.specs.Paths.{registers_of}
 use Rattle.no_semantics.specs.Registers.{Registers, with_front, all_given, below, held_below, constant_number, operand}
 use Rattle.no_semantics.specs.Values.{Program}
 use Rattle.no_progress.specs.Proper.{Each, Reads}

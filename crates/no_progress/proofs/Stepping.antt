@@ -7,7 +7,7 @@ use Rattle.no_ir.specs.declared.function.Block.{Block}
 use Rattle.no_ir.specs.declared.function.Function.{Function}
 use Rattle.no_heap.specs.declared.block.Block as heap'
 use Rattle.no_heap.specs.Blocks.{AreLive}
-use Rattle.no_paths.specs.Paths.{phi_uses_in, phi_uses_at, code_in, code_of}
+use Rattle.no_verify_paths.specs.Paths.{phi_uses_in, phi_uses_at, code_in, code_of}
 use Rattle.no_semantics.specs.Registers.{given}
 use Rattle.no_semantics.specs.Results.{Valued, Number, Traps, NoValue}
 use Rattle.no_semantics.specs.Rows.{Row, stuck, computed}

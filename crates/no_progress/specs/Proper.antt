@@ -13,8 +13,8 @@ use Rattle.no_module.specs.declared.external.External.{External}
 use Rattle.no_module.specs.Externals.{external_of}
 use Rattle.no_module.specs.Functions.{is_declared}
 use Rattle.no_module.specs.Scalars.{is_void}
-use Rattle.no_typing.specs.Typing.{direct}
-use Rattle.no_paths.specs.Paths.{code_of, block_of, successors, IsAssigned}
+use Rattle.no_verify_types.specs.Typing.{direct}
+use Rattle.no_verify_paths.specs.Paths.{code_of, block_of, successors, IsAssigned}
 use Rattle.no_eval.specs.Cast.{GoesBetween}
 use Rattle.no_semantics.specs.Registers.{constant_number}
 use Rattle.no_semantics.specs.States.{function_at}

@@ -8,7 +8,7 @@ use Rattle.no_ir.specs.declared.function.Function.{Function}
 use Rattle.no_heap.specs.Blocks.{AreLive}
 use Rattle.no_layout.specs.Memory.{stack_start, stack_end}
 use Rattle.no_module.specs.Functions.{is_declared}
-use Rattle.no_paths.specs.Paths.{code_of, PathTo, assigned_at}
+use Rattle.no_verify_paths.specs.Paths.{code_of, PathTo, assigned_at}
 use Rattle.no_semantics.specs.Registers.{Registers}
 use Rattle.no_semantics.specs.Rows.{Next, Goes, Leaves, Ends, Stuck}
 use Rattle.no_semantics.specs.States.{Frame, State, function_at}

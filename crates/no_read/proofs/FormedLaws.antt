@@ -6,8 +6,8 @@ use Rattle.no_ir.specs.declared.function.Role.{Role}
 use Rattle.no_lex.specs.declared.token.Token.{Token}
 use Rattle.no_module.specs.Formed.{IsFormed}
 use Rattle.no_module.specs.Marks.{MarksAllowed}
-use Rattle.no_formed.proofs.Modules.{read_formed, read_marks}
-use Rattle.no_formed.proofs.Typed.{Exact, names_typed}
+use Rattle.no_read_formed.proofs.Modules.{read_formed, read_marks}
+use Rattle.no_read_formed.proofs.Typed.{Exact, names_typed}
 use Rattle.no_read.specs.Knowing.{Answers, known_of, meaning_of}
 use Rattle.no_read.specs.Reading.{IsModule, Reads, typed}
 use Rattle.no_read.specs.declared.fault.ReadError.{ReadError}

@@ -1,19 +1,19 @@
 -- What names mean, by what type definitions give.
 use Rattle.std.proofs.Common.{◌≡◌, ℕ, List, Result, Ok, Err, sym, ap, ◌∙◌}
 use Rattle.no_lex.specs.declared.token.Token.{Token}
-use Rattle.no_grammar.specs.declared.fault.Stop.{Stop}
-use Rattle.no_grammar.specs.declared.fault.Stop.TheVariants as stop
-use Rattle.no_types.specs.Lifted.{Lifts}
-use Rattle.no_types.specs.Lifted as types
-use Rattle.no_types.specs.declared.lifted.Lifted.{Lifted}
+use Rattle.no_read_rules.specs.declared.fault.Stop.{Stop}
+use Rattle.no_read_rules.specs.declared.fault.Stop.TheVariants as stop
+use Rattle.no_read_types.specs.Lifted.{Lifts}
+use Rattle.no_read_types.specs.Lifted as types
+use Rattle.no_read_types.specs.declared.lifted.Lifted.{Lifted}
 use Rattle.no_read.specs.declared.fault.ReadError.{ReadError}
 use Rattle.no_read.specs.declared.fault.ReadError.TheVariants as error
 use Rattle.no_read.specs.declared.known.Known.{Known}
 use Rattle.no_read.specs.declared.fault.ReadFault.{ReadFault}
 use Rattle.no_read.specs.Faults.{read_fault}
 use Rattle.no_read.specs.Knowing.{known_of, IsKnown, Knows, Answers, StopsAs}
-use Rattle.no_grammar.specs.declared.fault.Stopped.{Stopped}
-use Rattle.no_types.proofs.LiftedLaws.{lifts_once}
+use Rattle.no_read_rules.specs.declared.fault.Stopped.{Stopped}
+use Rattle.no_read_types.proofs.LiftedLaws.{lifts_once}
 
 pub is_known : (text : List ℕ) (tokens : List Token) (lifted : Lifted) (k : Known) → Lifts text tokens (Ok lifted) → k ≡ known_of text lifted → IsKnown text tokens k
 is_known text tokens lifted k l e = record { lifted = lifted; lifts = l; is = e }

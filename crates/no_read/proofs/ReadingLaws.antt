@@ -6,12 +6,12 @@ use Rattle.no_ir.specs.Naming.{is_known, with_name, IsDistinct}
 use Rattle.no_ir.specs.declared.function.Module.{Module}
 use Rattle.no_ir.specs.declared.function.Role.{Role}
 use Rattle.no_lex.specs.declared.token.Token.{Token}
-use Rattle.no_grammar.specs.Rules.{Fails}
-use Rattle.no_grammar.specs.declared.fault.Stop.{Stop}
-use Rattle.no_grammar.specs.declared.fault.Stop.TheVariants as stop
-use Rattle.no_types.specs.Lifted.{Lifts}
-use Rattle.no_types.specs.declared.lifted.Lifted.{Lifted}
-use Rattle.no_types.proofs.LiftedLaws.{lifts_once}
+use Rattle.no_read_rules.specs.Rules.{Fails}
+use Rattle.no_read_rules.specs.declared.fault.Stop.{Stop}
+use Rattle.no_read_rules.specs.declared.fault.Stop.TheVariants as stop
+use Rattle.no_read_types.specs.Lifted.{Lifts}
+use Rattle.no_read_types.specs.declared.lifted.Lifted.{Lifted}
+use Rattle.no_read_types.proofs.LiftedLaws.{lifts_once}
 use Rattle.no_read.specs.Faults.{read_fault}
 use Rattle.no_read.specs.Knowing.{known_of, IsKnown, IsRefused, Knows, Answers, StopsAs}
 use Rattle.no_read.specs.Reading.{name_all, IsModuleBy, read_by, IsModule, IsStopped, Reads}

@@ -1,11 +1,11 @@
 -- The faults of a text that reads as no module.
 use Rattle.std.specs.Prelude.{ℕ, List, [], ◌∷◌, ◌==◌, length, Option, Some, None, if◌then◌else◌}
 use Rattle.no_lex.specs.declared.token.Token.{Token}
-use Rattle.no_grammar.specs.declared.fault.Flaw.{Flaw}
-use Rattle.no_grammar.specs.declared.fault.Flaw.TheVariants as flaw
-use Rattle.no_grammar.specs.declared.fault.Stopped.{Stopped}
-use Rattle.no_grammar.specs.Spelled.{spelled}
-use Rattle.no_attrs.specs.Words.{is_left_out}
+use Rattle.no_read_rules.specs.declared.fault.Flaw.{Flaw}
+use Rattle.no_read_rules.specs.declared.fault.Flaw.TheVariants as flaw
+use Rattle.no_read_rules.specs.declared.fault.Stopped.{Stopped}
+use Rattle.no_read_rules.specs.Spelled.{spelled}
+use Rattle.no_read_attributes.specs.Words.{is_left_out}
 use Rattle.no_read.specs.declared.fault.ReadFault.{ReadFault}
 use Rattle.no_read.specs.declared.fault.ReadFault.TheVariants as fault
 

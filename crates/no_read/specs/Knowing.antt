@@ -1,13 +1,13 @@
 -- What the names of a text mean, before its forms are read.
 use Rattle.std.specs.Prelude.{◌≡◌, ℕ, List, Result, Ok, Err}
 use Rattle.no_lex.specs.declared.token.Token.{Token}
-use Rattle.no_grammar.specs.declared.fault.Stopped.{Stopped}
-use Rattle.no_grammar.specs.declared.fault.Stop.{Stop}
-use Rattle.no_grammar.specs.declared.fault.Stop.TheVariants as stop
-use Rattle.no_grammar.specs.Scope.{Meaning}
-use Rattle.no_types.specs.Lifted.{Lifts}
-use Rattle.no_types.specs.declared.lifted.Lifted.{Lifted}
-use Rattle.no_scope.specs.Scan.{symbols_in}
+use Rattle.no_read_rules.specs.declared.fault.Stopped.{Stopped}
+use Rattle.no_read_rules.specs.declared.fault.Stop.{Stop}
+use Rattle.no_read_rules.specs.declared.fault.Stop.TheVariants as stop
+use Rattle.no_read_rules.specs.Scope.{Meaning}
+use Rattle.no_read_types.specs.Lifted.{Lifts}
+use Rattle.no_read_types.specs.declared.lifted.Lifted.{Lifted}
+use Rattle.no_read_symbols.specs.Scan.{symbols_in}
 use Rattle.no_read.specs.Faults.{read_fault}
 use Rattle.no_read.specs.declared.fault.ReadError.{ReadError}
 use Rattle.no_read.specs.declared.fault.ReadError.TheVariants as error

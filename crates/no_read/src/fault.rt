@@ -1,10 +1,10 @@
 ghost use Rattle.std.specs.Prelude.{◌≡◌, ◌<◌, ◌^◌, length, IfOk};
 ghost use Rattle.no_read.specs.Faults.{fault_number, token_at, syntax_at, left_out_at, flaw_at, read_fault};
 
-use no_attrs::is_left_out;
-use no_grammar::{Flaw, Stopped, spelled};
 use no_ir::{Bytes, List, NoMemory};
 use no_lex::Token;
+use no_read_attributes::is_left_out;
+use no_read_rules::{Flaw, Stopped, spelled};
 use std::alloc::{AllocError, Global};
 
 /// The first fault of a text that reads as no module, and its place in bytes.

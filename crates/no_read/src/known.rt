@@ -1,16 +1,16 @@
 ghost use Rattle.std.specs.Prelude.{◌≡◌, ◌<◌, ◌^◌, length, Result, IfOk};
 ghost use Rattle.no_read.specs.declared.fault.ReadFault.{ReadFault};
 ghost use Rattle.no_read.specs.declared.known.Known.{Known};
-ghost use Rattle.no_grammar.specs.Scope.{seen};
+ghost use Rattle.no_read_rules.specs.Scope.{seen};
 ghost use Rattle.no_read.specs.Faults.{read_fault};
 ghost use Rattle.no_read.specs.Knowing.{known_of, Knows, Answers, StopsAs, meaning_of};
 
 use crate::{ReadError, read_fault};
-use no_grammar::{Scope, Stop};
 use no_ir::{List, Names, NoMemory, Ty};
 use no_lex::Token;
-use no_scope::{Symbols, symbol_names};
-use no_types::{Lifted, definitions};
+use no_read_rules::{Scope, Stop};
+use no_read_symbols::{Symbols, symbol_names};
+use no_read_types::{Lifted, definitions};
 use std::alloc::Global;
 
 /// What the names of a text mean, and the tokens that its forms are read from.

@@ -4,7 +4,7 @@ ghost use Rattle.no_ir.specs.declared.function.Role.{Role};
 ghost use Rattle.no_lex.specs.declared.token.Token.{Token};
 ghost use Rattle.no_module.specs.Formed.{IsFormed};
 ghost use Rattle.no_module.specs.Marks.{MarksAllowed};
-ghost use Rattle.no_grammar.specs.Rules.{Gives};
+ghost use Rattle.no_read_rules.specs.Rules.{Gives};
 ghost use Rattle.no_read.specs.declared.fault.ReadFault.{ReadFault};
 ghost use Rattle.no_read.specs.Knowing.{Answers};
 ghost use Rattle.no_read.specs.Reading.{IsModule, Reads, read_by};
@@ -12,10 +12,10 @@ ghost use Rattle.no_read.specs.Reading.{IsModule, Reads, read_by};
 use crate::known::{names_in, stop_error};
 use crate::typed::with_types;
 use crate::{Known, ReadError};
-use no_grammar::Stop;
 use no_ir::{Module, Role};
 use no_lex::Token;
-use no_modules::{a_module, modules_are_exact};
+use no_read_modules::{a_module, modules_are_exact};
+use no_read_rules::Stop;
 use std::alloc::Global;
 
 /// The module of the forms, where it is known what names mean.

@@ -8,19 +8,19 @@ use Rattle.no_ir.specs.declared.types.Ty.{Ty}
 use Rattle.no_ir.specs.declared.instruction.Operand.{Operand}
 use Rattle.no_ir.specs.declared.instruction.Op.{Op}
 use Rattle.no_ir.specs.declared.instruction.Op.TheVariants as op
-use Rattle.no_grammar.specs.declared.fault.Flaw.{Flaw}
-use Rattle.no_grammar.specs.declared.fault.Flaw.TheVariants.{Syntax, Number}
-use Rattle.no_grammar.specs.Numbers as numbers
-use Rattle.no_grammar.specs.Rules.{Rule, if_next}
-use Rattle.no_grammar.specs.Scope.{Meaning}
-use Rattle.no_grammar.specs.Spelled.{spelled, kind_number, is_kind, is_word}
-use Rattle.no_attrs.specs.Attributes.{is_alignment, aligned, alignment_of}
-use Rattle.no_locals.specs.declared.locals.Locals.{Locals}
-use Rattle.no_forms.specs.declared.memory.AllocaEnd.{AllocaEnd}
-use Rattle.no_forms.specs.Operands.{sized_operand}
-use Rattle.no_forms.specs.Ends.{is_comma, an_alignment, an_attachment}
-use Rattle.no_forms.specs.Folded.{AreSteps, folded}
-use Rattle.no_forms.specs.Memory.{opens_alignment, opens_count, stated_alignment, stated_count, alloca_attachment, count_or_attachment, alloca_step, alloca_start, alloca}
+use Rattle.no_read_rules.specs.declared.fault.Flaw.{Flaw}
+use Rattle.no_read_rules.specs.declared.fault.Flaw.TheVariants.{Syntax, Number}
+use Rattle.no_read_rules.specs.Numbers as numbers
+use Rattle.no_read_rules.specs.Rules.{Rule, if_next}
+use Rattle.no_read_rules.specs.Scope.{Meaning}
+use Rattle.no_read_rules.specs.Spelled.{spelled, kind_number, is_kind, is_word}
+use Rattle.no_read_attributes.specs.Attributes.{is_alignment, aligned, alignment_of}
+use Rattle.no_read_registers.specs.declared.locals.Locals.{Locals}
+use Rattle.no_read_operations.specs.declared.memory.AllocaEnd.{AllocaEnd}
+use Rattle.no_read_operations.specs.Operands.{sized_operand}
+use Rattle.no_read_operations.specs.Ends.{is_comma, an_alignment, an_attachment}
+use Rattle.no_read_operations.specs.Folded.{AreSteps, folded}
+use Rattle.no_read_operations.specs.Memory.{opens_alignment, opens_count, stated_alignment, stated_count, alloca_attachment, count_or_attachment, alloca_step, alloca_start, alloca}
 use Rattle.no_print.specs.Pieces.{Piece, spaced, comma, word, integer}
 use Rattle.no_print.specs.Constants.{type_at}
 use Rattle.no_print.specs.Instructions.{inserted_pieces, alignment_pieces, count_pieces, sized}

@@ -5,21 +5,21 @@ use Rattle.no_lex.specs.declared.token.Token.{Token}
 use Rattle.no_lex.specs.declared.token.TokenKind.{TokenKind}
 use Rattle.no_lex.specs.declared.token.TokenKind.TheVariants as kind
 use Rattle.no_ir.specs.declared.types.Ty.{Ty}
-use Rattle.no_grammar.specs.declared.fault.Flaw.{Flaw}
-use Rattle.no_grammar.specs.declared.fault.Flaw.TheVariants.{Syntax, LeftOut}
-use Rattle.no_grammar.specs.declared.types.TypeHead.{TypeHead}
-use Rattle.no_grammar.specs.Rules.{plain}
-use Rattle.no_grammar.specs.Scope.{Meaning}
-use Rattle.no_grammar.specs.Spelled.{spelled, kind_number, is_kind, is_word}
-use Rattle.no_grammar.specs.Types.{word_type, head_by, type_head, leaf_of, after_type_head, a_type}
-use Rattle.no_values.specs.Places.{symbol_named, bare_or, place_head, after_place_head, a_place, truth_at, begins_place}
-use Rattle.no_values.specs.declared.places.PlaceHead.{PlaceHead}
-use Rattle.no_values.specs.Constants.{resolved, shape_of, word_at, word_const, leaf_by, leaf_head, as_leaf, const_by, const_head, after_leaf, address, after_head, flat_const, bracket_const, a_const}
-use Rattle.no_values.specs.declared.constants.Shape.{Shape}
-use Rattle.no_values.specs.declared.constants.Shape.TheVariants as shape
-use Rattle.no_values.specs.declared.constants.LeafHead.{LeafHead}
-use Rattle.no_values.specs.declared.constants.ConstHead.{ConstHead}
-use Rattle.no_attrs.specs.Attributes.{begins_by, begins_attribute}
+use Rattle.no_read_rules.specs.declared.fault.Flaw.{Flaw}
+use Rattle.no_read_rules.specs.declared.fault.Flaw.TheVariants.{Syntax, LeftOut}
+use Rattle.no_read_rules.specs.declared.types.TypeHead.{TypeHead}
+use Rattle.no_read_rules.specs.Rules.{plain}
+use Rattle.no_read_rules.specs.Scope.{Meaning}
+use Rattle.no_read_rules.specs.Spelled.{spelled, kind_number, is_kind, is_word}
+use Rattle.no_read_rules.specs.Types.{word_type, head_by, type_head, leaf_of, after_type_head, a_type}
+use Rattle.no_read_constants.specs.Places.{symbol_named, bare_or, place_head, after_place_head, a_place, truth_at, begins_place}
+use Rattle.no_read_constants.specs.declared.places.PlaceHead.{PlaceHead}
+use Rattle.no_read_constants.specs.Constants.{resolved, shape_of, word_at, word_const, leaf_by, leaf_head, as_leaf, const_by, const_head, after_leaf, address, after_head, flat_const, bracket_const, a_const}
+use Rattle.no_read_constants.specs.declared.constants.Shape.{Shape}
+use Rattle.no_read_constants.specs.declared.constants.Shape.TheVariants as shape
+use Rattle.no_read_constants.specs.declared.constants.LeafHead.{LeafHead}
+use Rattle.no_read_constants.specs.declared.constants.ConstHead.{ConstHead}
+use Rattle.no_read_attributes.specs.Attributes.{begins_by, begins_attribute}
 use Rattle.no_reread.proofs.Opening.{Opens, plain_opens, then_opens, checked_opens, if_next_opens}
 
 -- a property of a word that is one of these

@@ -5,16 +5,16 @@ use Rattle.no_lex.specs.declared.token.TokenKind.TheVariants as kind
 use Rattle.no_ir.specs.declared.function.Block.{Block}
 use Rattle.no_ir.specs.declared.function.Role.{Role}
 use Rattle.no_ir.specs.declared.instruction.Instr.{Instr}
-use Rattle.no_grammar.specs.Repeated.{IsRepeated, repeat}
-use Rattle.no_grammar.specs.Rules.{Rule}
-use Rattle.no_grammar.specs.Scope.{Meaning}
-use Rattle.no_grammar.specs.Spelled.{is_sign, only_where, a_sign}
-use Rattle.no_locals.specs.declared.locals.Locals.{Locals}
-use Rattle.no_locals.specs.Numbered.{a_block_label}
-use Rattle.no_instr.specs.Instructions.{an_instr}
-use Rattle.no_blocks.specs.declared.blocks.Piece as blocks
-use Rattle.no_blocks.specs.declared.blocks.Piece.TheVariants as piece
-use Rattle.no_blocks.specs.Blocks.{is_close, is_label, blocks_of, closing, label_piece, instr_piece, labelled, unlabelled, a_piece, entry, body}
+use Rattle.no_read_rules.specs.Repeated.{IsRepeated, repeat}
+use Rattle.no_read_rules.specs.Rules.{Rule}
+use Rattle.no_read_rules.specs.Scope.{Meaning}
+use Rattle.no_read_rules.specs.Spelled.{is_sign, only_where, a_sign}
+use Rattle.no_read_registers.specs.declared.locals.Locals.{Locals}
+use Rattle.no_read_registers.specs.Numbered.{a_block_label}
+use Rattle.no_read_instructions.specs.Instructions.{an_instr}
+use Rattle.no_read_blocks.specs.declared.blocks.Piece as blocks
+use Rattle.no_read_blocks.specs.declared.blocks.Piece.TheVariants as piece
+use Rattle.no_read_blocks.specs.Blocks.{is_close, is_label, blocks_of, closing, label_piece, instr_piece, labelled, unlabelled, a_piece, entry, body}
 use Rattle.no_print.specs.Names.{name_at, label_line}
 use Rattle.no_print.specs.Pieces.{Piece, lined, sign}
 use Rattle.no_print.specs.Instructions.{instr_pieces}

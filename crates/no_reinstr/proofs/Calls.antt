@@ -7,17 +7,17 @@ use Rattle.no_ir.specs.declared.types.Ty.TheVariants as ty
 use Rattle.no_ir.specs.declared.instruction.Operand.{Operand}
 use Rattle.no_ir.specs.declared.instruction.Op.TheVariants as op
 use Rattle.no_ir.specs.declared.instruction.Instr.{Instr}
-use Rattle.no_grammar.specs.Lists.{more_item, items}
-use Rattle.no_grammar.specs.Repeated.{IsRepeated}
-use Rattle.no_grammar.specs.Rules.{Rule}
-use Rattle.no_grammar.specs.Scope.{Meaning}
-use Rattle.no_grammar.specs.Spelled.{is_sign}
-use Rattle.no_grammar.specs.Types.{a_type}
-use Rattle.no_attrs.specs.Attributes.{begins_attribute, all_attributes, skip_attributes}
-use Rattle.no_locals.specs.declared.locals.Locals.{Locals}
-use Rattle.no_forms.specs.Operands.{DEPTH, some_type, an_operand}
-use Rattle.no_forms.specs.Ends.{end_mark}
-use Rattle.no_instr.specs.Calls.{behind_attributes, an_argument, call_parts}
+use Rattle.no_read_rules.specs.Lists.{more_item, items}
+use Rattle.no_read_rules.specs.Repeated.{IsRepeated}
+use Rattle.no_read_rules.specs.Rules.{Rule}
+use Rattle.no_read_rules.specs.Scope.{Meaning}
+use Rattle.no_read_rules.specs.Spelled.{is_sign}
+use Rattle.no_read_rules.specs.Types.{a_type}
+use Rattle.no_read_attributes.specs.Attributes.{begins_attribute, all_attributes, skip_attributes}
+use Rattle.no_read_registers.specs.declared.locals.Locals.{Locals}
+use Rattle.no_read_operations.specs.Operands.{DEPTH, some_type, an_operand}
+use Rattle.no_read_operations.specs.Ends.{end_mark}
+use Rattle.no_read_instructions.specs.Calls.{behind_attributes, an_argument, call_parts}
 use Rattle.no_print.specs.Pieces.{Piece, spaced, glued, sign, with_commas}
 use Rattle.no_print.specs.Instructions.{inserted_pieces, operand_pieces, argument_pieces}
 use Rattle.no_reread.specs.Spells.{AreBytes, Spells, TypesFit, over, spelled_by}

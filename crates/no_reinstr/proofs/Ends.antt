@@ -6,14 +6,14 @@ use Rattle.no_lex.specs.declared.token.TokenKind.TheVariants as kind
 use Rattle.no_ir.specs.declared.function.Role.{Role}
 use Rattle.no_ir.specs.declared.function.Role.TheVariants.{Source, Part}
 use Rattle.no_ir.specs.declared.instruction.Op.{Op}
-use Rattle.no_grammar.specs.declared.fault.Flaw.{Flaw}
-use Rattle.no_grammar.specs.declared.fault.Flaw.TheVariants.{Syntax}
-use Rattle.no_grammar.specs.Rules.{plain, if_next}
-use Rattle.no_grammar.specs.Spelled.{kind_number, is_word}
-use Rattle.no_locals.specs.declared.locals.Locals.{Locals}
-use Rattle.no_forms.specs.declared.ends.Ending.{Ending}
-use Rattle.no_forms.specs.Ends.{is_comma, names_node, node_is, marks, an_attachment, opens_alignment, end_alignment, end_attachment, end_step, ends, end_mark, finish}
-use Rattle.no_forms.specs.Folded.{AreSteps}
+use Rattle.no_read_rules.specs.declared.fault.Flaw.{Flaw}
+use Rattle.no_read_rules.specs.declared.fault.Flaw.TheVariants.{Syntax}
+use Rattle.no_read_rules.specs.Rules.{plain, if_next}
+use Rattle.no_read_rules.specs.Spelled.{kind_number, is_word}
+use Rattle.no_read_registers.specs.declared.locals.Locals.{Locals}
+use Rattle.no_read_operations.specs.declared.ends.Ending.{Ending}
+use Rattle.no_read_operations.specs.Ends.{is_comma, names_node, node_is, marks, an_attachment, opens_alignment, end_alignment, end_attachment, end_step, ends, end_mark, finish}
+use Rattle.no_read_operations.specs.Folded.{AreSteps}
 use Rattle.no_print.specs.Pieces.{Piece, spaced, glued, piece, comma}
 use Rattle.no_print.specs.Stand.{IsPiece}
 use Rattle.no_print.specs.Instructions.{inserted_pieces}

@@ -13,18 +13,18 @@ use Rattle.no_ir.specs.declared.instruction.Pred.{Pred}
 use Rattle.no_ir.specs.declared.instruction.Pred.TheVariants as pred
 use Rattle.no_ir.specs.declared.instruction.Operand.{Operand}
 use Rattle.no_ir.specs.declared.instruction.Op.{Op}
-use Rattle.no_grammar.specs.declared.fault.Flaw.{Flaw}
-use Rattle.no_grammar.specs.declared.fault.Flaw.TheVariants.{Syntax}
-use Rattle.no_grammar.specs.Rules.{Rule, plain}
-use Rattle.no_grammar.specs.Scope.{Meaning}
-use Rattle.no_grammar.specs.Spelled.{kind_number, is_word}
-use Rattle.no_locals.specs.declared.locals.Locals.{Locals}
-use Rattle.no_forms.specs.declared.operands.Flags.{Flags}
-use Rattle.no_forms.specs.declared.operands.Flags.TheVariants as flags
-use Rattle.no_forms.specs.Operands.{some_type, is_flag_word}
-use Rattle.no_forms.specs.Ends.{ended}
-use Rattle.no_forms.specs.Simple.{binary_flags, binary_parts, binary, cast_flags, cast_parts, cast_form, pred_of, compare_parts, compare, freeze, select}
-use Rattle.no_forms.specs.Simple as simple
+use Rattle.no_read_rules.specs.declared.fault.Flaw.{Flaw}
+use Rattle.no_read_rules.specs.declared.fault.Flaw.TheVariants.{Syntax}
+use Rattle.no_read_rules.specs.Rules.{Rule, plain}
+use Rattle.no_read_rules.specs.Scope.{Meaning}
+use Rattle.no_read_rules.specs.Spelled.{kind_number, is_word}
+use Rattle.no_read_registers.specs.declared.locals.Locals.{Locals}
+use Rattle.no_read_operations.specs.declared.operands.Flags.{Flags}
+use Rattle.no_read_operations.specs.declared.operands.Flags.TheVariants as flags
+use Rattle.no_read_operations.specs.Operands.{some_type, is_flag_word}
+use Rattle.no_read_operations.specs.Ends.{ended}
+use Rattle.no_read_operations.specs.Simple.{binary_flags, binary_parts, binary, cast_flags, cast_parts, cast_form, pred_of, compare_parts, compare, freeze, select}
+use Rattle.no_read_operations.specs.Simple as simple
 use Rattle.no_print.specs.Names.{int_type}
 use Rattle.no_print.specs.Pieces.{Piece, spaced, glued, comma, word}
 use Rattle.no_print.specs.Constants.{type_at}

@@ -4,17 +4,17 @@ use Rattle.no_lex.specs.declared.token.Token.{Token}
 use Rattle.no_lex.specs.declared.token.TokenKind.TheVariants as kind
 use Rattle.no_ir.specs.declared.instruction.BinOp.TheVariants as bin
 use Rattle.no_ir.specs.declared.instruction.CastOp.TheVariants as cast
-use Rattle.no_grammar.specs.declared.fault.Flaw.TheVariants.{Syntax}
-use Rattle.no_grammar.specs.Rules.{plain}
-use Rattle.no_grammar.specs.Spelled.{spelled, kind_number, is_kind, is_word, only_where}
-use Rattle.no_instr.specs.Calls.{void_of}
-use Rattle.no_instr.specs.Heads.{giver_word, action_word, or_action, or_giver, head_word, instr_head}
-use Rattle.no_instr.specs.declared.heads.Giver.{Giver}
-use Rattle.no_instr.specs.declared.heads.Giver.TheVariants as giver
-use Rattle.no_instr.specs.declared.heads.Action.{Action}
-use Rattle.no_instr.specs.declared.heads.Action.TheVariants as action
-use Rattle.no_instr.specs.declared.heads.InstrHead.{InstrHead}
-use Rattle.no_instr.specs.declared.heads.InstrHead.TheVariants as head
+use Rattle.no_read_rules.specs.declared.fault.Flaw.TheVariants.{Syntax}
+use Rattle.no_read_rules.specs.Rules.{plain}
+use Rattle.no_read_rules.specs.Spelled.{spelled, kind_number, is_kind, is_word, only_where}
+use Rattle.no_read_instructions.specs.Calls.{void_of}
+use Rattle.no_read_instructions.specs.Heads.{giver_word, action_word, or_action, or_giver, head_word, instr_head}
+use Rattle.no_read_instructions.specs.declared.heads.Giver.{Giver}
+use Rattle.no_read_instructions.specs.declared.heads.Giver.TheVariants as giver
+use Rattle.no_read_instructions.specs.declared.heads.Action.{Action}
+use Rattle.no_read_instructions.specs.declared.heads.Action.TheVariants as action
+use Rattle.no_read_instructions.specs.declared.heads.InstrHead.{InstrHead}
+use Rattle.no_read_instructions.specs.declared.heads.InstrHead.TheVariants as head
 use Rattle.no_print.specs.Pieces.{word}
 use Rattle.no_print.specs.Instructions.{binary_word, cast_word}
 use Rattle.no_reread.specs.Spells.{Spells}

@@ -4,18 +4,18 @@ use Rattle.no_lex.specs.declared.token.Token.{Token}
 use Rattle.no_lex.specs.declared.token.TokenKind.TheVariants as kind
 use Rattle.no_ir.specs.declared.function.Role.{Role}
 use Rattle.no_ir.specs.declared.function.Role.TheVariants.{Source, Part}
-use Rattle.no_grammar.specs.Rules.{Rule, if_next, next_is}
-use Rattle.no_grammar.specs.Spelled.{is_kind}
-use Rattle.no_locals.specs.declared.locals.Locals.{Locals}
-use Rattle.no_forms.specs.declared.ends.Listed.{Listed}
-use Rattle.no_forms.specs.Operands.{sign}
-use Rattle.no_forms.specs.Ends.{is_comma, an_attachment, opens_item, list_item, list_attachment, list_step, listed}
-use Rattle.no_forms.specs.Folded.{AreSteps}
+use Rattle.no_read_rules.specs.Rules.{Rule, if_next, next_is}
+use Rattle.no_read_rules.specs.Spelled.{is_kind}
+use Rattle.no_read_registers.specs.declared.locals.Locals.{Locals}
+use Rattle.no_read_operations.specs.declared.ends.Listed.{Listed}
+use Rattle.no_read_operations.specs.Operands.{sign}
+use Rattle.no_read_operations.specs.Ends.{is_comma, an_attachment, opens_item, list_item, list_attachment, list_step, listed}
+use Rattle.no_read_operations.specs.Folded.{AreSteps}
 use Rattle.no_print.specs.Pieces.{Piece, glued, comma, behind_commas}
 use Rattle.no_print.specs.Instructions.{inserted_pieces}
 use Rattle.no_reread.proofs.Listing.{sign_spells}
 use Rattle.no_reread.proofs.Standing.{Begins, begins, kind_tested}
-use Rattle.no_grammar.specs.Spelled as spelled
+use Rattle.no_read_rules.specs.Spelled as spelled
 use Rattle.no_reinstr.proofs.Ends.{MarkFits, no_mark, attachment_fits, mark_pieces, comma_first, attachment_spells}
 use Rattle.no_reinstr.proofs.Returning.{Returns, ending, lifted, pieces_are, yes_returns, no_returns, then_returns, made_returns, step_returns, no_steps}
 

@@ -7,13 +7,13 @@ use Rattle.no_ir.specs.declared.types.Ty.{Ty}
 use Rattle.no_ir.specs.declared.instruction.Operand.{Operand}
 use Rattle.no_ir.specs.declared.instruction.Op.{Op}
 use Rattle.no_ir.specs.declared.instruction.Op.TheVariants as op
-use Rattle.no_grammar.specs.Rules.{Rule}
-use Rattle.no_grammar.specs.Scope.{Meaning}
-use Rattle.no_grammar.specs.Spelled.{is_kind, is_word}
-use Rattle.no_values.specs.Places.{is_flag}
-use Rattle.no_locals.specs.declared.locals.Locals.{Locals}
-use Rattle.no_forms.specs.Operands.{some_type, sized_operand}
-use Rattle.no_forms.specs.Memory.{is_volatile, load_parts, volatile_load, load, store_parts, volatile_store, store, address_parts, address}
+use Rattle.no_read_rules.specs.Rules.{Rule}
+use Rattle.no_read_rules.specs.Scope.{Meaning}
+use Rattle.no_read_rules.specs.Spelled.{is_kind, is_word}
+use Rattle.no_read_constants.specs.Places.{is_flag}
+use Rattle.no_read_registers.specs.declared.locals.Locals.{Locals}
+use Rattle.no_read_operations.specs.Operands.{some_type, sized_operand}
+use Rattle.no_read_operations.specs.Memory.{is_volatile, load_parts, volatile_load, load, store_parts, volatile_store, store, address_parts, address}
 use Rattle.no_print.specs.Pieces.{Piece, spaced, glued, comma, word, behind_commas}
 use Rattle.no_print.specs.Constants.{type_at}
 use Rattle.no_print.specs.Instructions.{inserted_pieces, operand_pieces, sized, pointer}

@@ -9,16 +9,16 @@ use Rattle.no_ir.specs.declared.types.Ty.TheVariants.{rolls-Int, rolls-Ptr}
 use Rattle.no_ir.specs.declared.types.Ty.TheViews.{out-roll-Ty}
 use Rattle.no_ir.specs.declared.constant.Const.{Const}
 use Rattle.no_ir.specs.declared.instruction.Operand.{Operand}
-use Rattle.no_grammar.specs.Rules.{plain, checked}
-use Rattle.no_grammar.specs.Scope.{Meaning}
-use Rattle.no_grammar.specs.Spelled.{spelled, is_kind, is_word, only_where, a_word, a_sign}
-use Rattle.no_grammar.specs.Types.{a_type, must_be}
-use Rattle.no_values.specs.Places.{width_of}
-use Rattle.no_values.specs.Constants.{a_const}
-use Rattle.no_attrs.specs.Attributes.{begins_by, begins_attribute}
-use Rattle.no_locals.specs.declared.locals.Locals.{Locals}
-use Rattle.no_locals.specs.Numbered.{a_label}
-use Rattle.no_forms.specs.Operands.{DEPTH, word, sign, some_type, this_type, a_width, register_operand, const_operand, an_operand, a_pointer, sized_operand}
+use Rattle.no_read_rules.specs.Rules.{plain, checked}
+use Rattle.no_read_rules.specs.Scope.{Meaning}
+use Rattle.no_read_rules.specs.Spelled.{spelled, is_kind, is_word, only_where, a_word, a_sign}
+use Rattle.no_read_rules.specs.Types.{a_type, must_be}
+use Rattle.no_read_constants.specs.Places.{width_of}
+use Rattle.no_read_constants.specs.Constants.{a_const}
+use Rattle.no_read_attributes.specs.Attributes.{begins_by, begins_attribute}
+use Rattle.no_read_registers.specs.declared.locals.Locals.{Locals}
+use Rattle.no_read_registers.specs.Numbered.{a_label}
+use Rattle.no_read_operations.specs.Operands.{DEPTH, word, sign, some_type, this_type, a_width, register_operand, const_operand, an_operand, a_pointer, sized_operand}
 use Rattle.no_print.specs.Names.{name_at, local_name, int_type}
 use Rattle.no_print.specs.Pieces.{Piece, spaced, comma}
 use Rattle.no_print.specs.Pieces as print

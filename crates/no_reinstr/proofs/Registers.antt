@@ -5,15 +5,15 @@ use Rattle.no_lex.specs.declared.token.Token.{Token}
 use Rattle.no_lex.specs.declared.token.TokenKind.{TokenKind}
 use Rattle.no_lex.specs.declared.token.TokenKind.TheVariants as kind
 use Rattle.no_ir.specs.Naming.{place_of, with_name}
-use Rattle.no_grammar.specs.declared.fault.Flaw.{Flaw}
-use Rattle.no_grammar.specs.declared.fault.Flaw.TheVariants.{Syntax, Number}
-use Rattle.no_grammar.specs.Rules.{Rule, one}
-use Rattle.no_grammar.specs.Spelled.{spelled, kind_number, is_kind}
-use Rattle.no_grammar.specs.Unescaped.{name_of}
-use Rattle.no_locals.specs.declared.locals.Locals.{Locals}
-use Rattle.no_locals.specs.Counting.{next, behind_name, label_fits}
-use Rattle.no_locals.specs.Numbered.{register_named, label_named, register_defined, label_defined, register_unnamed, label_unnamed, used_register, a_register, written_register, a_definition, no_name, used_label, a_label_name, without_colon, label_by, written_label, a_block_label, numbered_label, fitting, no_block_label}
-use Rattle.no_locals.specs.Numbered as numbered
+use Rattle.no_read_rules.specs.declared.fault.Flaw.{Flaw}
+use Rattle.no_read_rules.specs.declared.fault.Flaw.TheVariants.{Syntax, Number}
+use Rattle.no_read_rules.specs.Rules.{Rule, one}
+use Rattle.no_read_rules.specs.Spelled.{spelled, kind_number, is_kind}
+use Rattle.no_read_rules.specs.Unescaped.{name_of}
+use Rattle.no_read_registers.specs.declared.locals.Locals.{Locals}
+use Rattle.no_read_registers.specs.Counting.{next, behind_name, label_fits}
+use Rattle.no_read_registers.specs.Numbered.{register_named, label_named, register_defined, label_defined, register_unnamed, label_unnamed, used_register, a_register, written_register, a_definition, no_name, used_label, a_label_name, without_colon, label_by, written_label, a_block_label, numbered_label, fitting, no_block_label}
+use Rattle.no_read_registers.specs.Numbered as numbered
 use Rattle.no_print.specs.Names.{name_at, spelling, quoted, label_spelling, local_name, label_line}
 use Rattle.no_print.specs.Pieces.{Piece}
 use Rattle.no_reread.specs.Spells.{AreBytes}

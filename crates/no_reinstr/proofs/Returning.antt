@@ -1,11 +1,11 @@
 -- What pieces spell of a function's body, where the states of two texts go on side by side.
 use Rattle.std.proofs.Common.{◌≡◌, ℕ, suc, zero, Bool, true, false, List, [], ◌∷◌, ◌++◌, Option, Some, None, refl, sym, subst}
 use Rattle.no_lex.specs.declared.token.Token.{Token}
-use Rattle.no_grammar.specs.Repeated.{repeat}
-use Rattle.no_grammar.specs.Rules.{Rule, done, ◌>>=◌, lift, if_next}
-use Rattle.no_values.specs.Skipped.{behind}
-use Rattle.no_locals.specs.declared.locals.Locals.{Locals}
-use Rattle.no_forms.specs.Folded.{folded}
+use Rattle.no_read_rules.specs.Repeated.{repeat}
+use Rattle.no_read_rules.specs.Rules.{Rule, done, ◌>>=◌, lift, if_next}
+use Rattle.no_read_constants.specs.Skipped.{behind}
+use Rattle.no_read_registers.specs.declared.locals.Locals.{Locals}
+use Rattle.no_read_operations.specs.Folded.{folded}
 use Rattle.no_print.specs.Pieces.{Piece}
 use Rattle.no_reread.specs.Spells.{Spells}
 use Rattle.no_reread.proofs.Frame.{done_spells, lift_spells, yes_spells, no_spells, then_spells, made_spells}

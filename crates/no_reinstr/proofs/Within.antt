@@ -5,7 +5,7 @@ use Rattle.std.proofs.lemmas.Bool.{ltb-true}
 use Rattle.std.proofs.lemmas.Slice.Eq.{bytes_eq-Decides}
 use Rattle.no_lex.specs.Spelling.{is_digits}
 use Rattle.no_ir.specs.Naming.{is_known, place_of, with_name}
-use Rattle.no_locals.specs.Counting.{next, stripped, behind_name}
+use Rattle.no_read_registers.specs.Counting.{next, stripped, behind_name}
 use Rattle.no_print.specs.Names.{name_at}
 use Rattle.no_reread.specs.Spells.{AreBytes}
 use Rattle.no_reinstr.specs.States.{Within, AreNames}

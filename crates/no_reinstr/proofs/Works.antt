@@ -7,25 +7,25 @@ use Rattle.no_ir.specs.declared.types.Ty.{Ty}
 use Rattle.no_ir.specs.declared.types.Ty.TheVariants as ty
 use Rattle.no_ir.specs.declared.instruction.Op.{Op}
 use Rattle.no_ir.specs.declared.instruction.Instr.{Instr}
-use Rattle.no_grammar.specs.Rules.{plain}
-use Rattle.no_grammar.specs.Scope.{Meaning}
-use Rattle.no_grammar.specs.Spelled.{spelled, kind_number, is_kind, is_sign, only_where}
-use Rattle.no_attrs.specs.Attributes.{begins_by, begins_attribute}
-use Rattle.no_locals.specs.declared.locals.Locals.{Locals}
-use Rattle.no_locals.specs.Numbered.{a_definition, no_name}
-use Rattle.no_forms.specs.Operands.{some_type}
-use Rattle.no_forms.specs.Simple.{binary, cast_form, compare, freeze, select}
-use Rattle.no_forms.specs.Memory.{load, store}
-use Rattle.no_forms.specs.Flow.{ret, br, switch}
-use Rattle.no_instr.specs.Calls.{void_of, void_call, typed_call, call_type, call_form}
-use Rattle.no_instr.specs.Heads.{instr_head}
-use Rattle.no_instr.specs.Instructions.{giver_form, action_form, giving, acting, tail_call, after_instr_head, instr_body, named_instr, an_instr}
-use Rattle.no_instr.specs.declared.heads.Giver.{Giver}
-use Rattle.no_instr.specs.declared.heads.Giver.TheVariants as giver
-use Rattle.no_instr.specs.declared.heads.Action.{Action}
-use Rattle.no_instr.specs.declared.heads.Action.TheVariants as action
-use Rattle.no_instr.specs.declared.heads.InstrHead.{InstrHead}
-use Rattle.no_instr.specs.declared.heads.InstrHead.TheVariants as head
+use Rattle.no_read_rules.specs.Rules.{plain}
+use Rattle.no_read_rules.specs.Scope.{Meaning}
+use Rattle.no_read_rules.specs.Spelled.{spelled, kind_number, is_kind, is_sign, only_where}
+use Rattle.no_read_attributes.specs.Attributes.{begins_by, begins_attribute}
+use Rattle.no_read_registers.specs.declared.locals.Locals.{Locals}
+use Rattle.no_read_registers.specs.Numbered.{a_definition, no_name}
+use Rattle.no_read_operations.specs.Operands.{some_type}
+use Rattle.no_read_operations.specs.Simple.{binary, cast_form, compare, freeze, select}
+use Rattle.no_read_operations.specs.Memory.{load, store}
+use Rattle.no_read_operations.specs.Flow.{ret, br, switch}
+use Rattle.no_read_instructions.specs.Calls.{void_of, void_call, typed_call, call_type, call_form}
+use Rattle.no_read_instructions.specs.Heads.{instr_head}
+use Rattle.no_read_instructions.specs.Instructions.{giver_form, action_form, giving, acting, tail_call, after_instr_head, instr_body, named_instr, an_instr}
+use Rattle.no_read_instructions.specs.declared.heads.Giver.{Giver}
+use Rattle.no_read_instructions.specs.declared.heads.Giver.TheVariants as giver
+use Rattle.no_read_instructions.specs.declared.heads.Action.{Action}
+use Rattle.no_read_instructions.specs.declared.heads.Action.TheVariants as action
+use Rattle.no_read_instructions.specs.declared.heads.InstrHead.{InstrHead}
+use Rattle.no_read_instructions.specs.declared.heads.InstrHead.TheVariants as head
 use Rattle.no_print.specs.Names.{name_at, local_name}
 use Rattle.no_print.specs.Pieces.{Piece, spaced, indented, word, sign}
 use Rattle.no_print.specs.Constants.{type_at}

@@ -1,6 +1,6 @@
 -- States of two texts that are read side by side: the second names everything in writing, where the first may have left names out.
 use Rattle.std.specs.Prelude.{◌≡◌, ℕ, List, [], ◌∷◌, ◌++◌}
-use Rattle.no_locals.specs.declared.locals.Locals.{Locals}
+use Rattle.no_read_registers.specs.declared.locals.Locals.{Locals}
 use Rattle.no_reread.specs.Spells.{AreBytes}
 use Rattle.no_print.specs.Instructions as print
 

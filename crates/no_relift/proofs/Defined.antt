@@ -6,14 +6,14 @@ use Rattle.no_lex.specs.declared.token.Token.{Token}
 use Rattle.no_lex.specs.declared.token.TokenKind.TheVariants as kind
 use Rattle.no_ir.specs.Naming.{is_known, with_name}
 use Rattle.no_ir.specs.declared.types.Ty.{Ty}
-use Rattle.no_grammar.specs.declared.fault.Flaw.{Flaw}
-use Rattle.no_grammar.specs.declared.fault.Flaw.TheVariants.{Syntax}
-use Rattle.no_grammar.specs.Rules.{Rule, one, keeping}
-use Rattle.no_grammar.specs.Scope.{Meaning}
-use Rattle.no_grammar.specs.Spelled.{spelled, is_kind, is_word, is_sign, only_where}
-use Rattle.no_grammar.specs.Types.{a_type}
-use Rattle.no_types.specs.declared.definition.Definition.{Definition}
-use Rattle.no_types.specs.Lifting.{name_at, begins_definition, added_name, new_name, a_struct, a_definition, Piece, Kept, Defined, ArePieces, lifting_of, names_from}
+use Rattle.no_read_rules.specs.declared.fault.Flaw.{Flaw}
+use Rattle.no_read_rules.specs.declared.fault.Flaw.TheVariants.{Syntax}
+use Rattle.no_read_rules.specs.Rules.{Rule, one, keeping}
+use Rattle.no_read_rules.specs.Scope.{Meaning}
+use Rattle.no_read_rules.specs.Spelled.{spelled, is_kind, is_word, is_sign, only_where}
+use Rattle.no_read_rules.specs.Types.{a_type}
+use Rattle.no_read_types.specs.declared.definition.Definition.{Definition}
+use Rattle.no_read_types.specs.Lifting.{name_at, begins_definition, added_name, new_name, a_struct, a_definition, Piece, Kept, Defined, ArePieces, lifting_of, names_from}
 use Rattle.no_reread.specs.Spells.{AreBytes}
 use Rattle.no_reread.proofs.Bytes.{bytes_name, bytes_spelled}
 use Rattle.no_reread.proofs.Found.{bytes_drop}

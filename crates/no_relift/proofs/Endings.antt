@@ -9,18 +9,18 @@ use Rattle.no_ir.specs.declared.types.Ty.{Ty, out-Ty}
 use Rattle.no_ir.specs.declared.types.Ty.TheOpen.{Ty-F}
 use Rattle.no_ir.specs.declared.types.Ty.TheVariants as ty
 use Rattle.no_ir.specs.declared.types.Ty.TheVariants.{rolls-Int, rolls-Ptr, rolls-Array, rolls-Named}
-use Rattle.no_grammar.specs.declared.fault.Flaw.{Flaw}
-use Rattle.no_grammar.specs.declared.fault.Flaw.TheVariants.{Syntax}
-use Rattle.no_grammar.specs.declared.types.TypeHead.{TypeHead}
-use Rattle.no_grammar.specs.declared.types.TypeHead.TheVariants as head
-use Rattle.no_grammar.specs.Lists.{closes_list, more_item, some_items, no_items, items}
-use Rattle.no_grammar.specs.Repeated.{repeat}
-use Rattle.no_grammar.specs.Rules.{Rule, plain, keeping, done, ◌>>=◌, choose, checked}
-use Rattle.no_grammar.specs.Scope.{Meaning}
-use Rattle.no_grammar.specs.Spelled.{spelled, kind_number, is_kind, is_word, is_sign, only_where, a_word, a_sign}
-use Rattle.no_grammar.specs.Types.{type_head, leaf_of, count_token, array_parts, struct_parts, packed_parts, after_type_head, a_type}
-use Rattle.no_grammar.specs.Numbers.{count_of}
-use Rattle.no_types.specs.Lifting.{a_struct, struct_in}
+use Rattle.no_read_rules.specs.declared.fault.Flaw.{Flaw}
+use Rattle.no_read_rules.specs.declared.fault.Flaw.TheVariants.{Syntax}
+use Rattle.no_read_rules.specs.declared.types.TypeHead.{TypeHead}
+use Rattle.no_read_rules.specs.declared.types.TypeHead.TheVariants as head
+use Rattle.no_read_rules.specs.Lists.{closes_list, more_item, some_items, no_items, items}
+use Rattle.no_read_rules.specs.Repeated.{repeat}
+use Rattle.no_read_rules.specs.Rules.{Rule, plain, keeping, done, ◌>>=◌, choose, checked}
+use Rattle.no_read_rules.specs.Scope.{Meaning}
+use Rattle.no_read_rules.specs.Spelled.{spelled, kind_number, is_kind, is_word, is_sign, only_where, a_word, a_sign}
+use Rattle.no_read_rules.specs.Types.{type_head, leaf_of, count_token, array_parts, struct_parts, packed_parts, after_type_head, a_type}
+use Rattle.no_read_rules.specs.Numbers.{count_of}
+use Rattle.no_read_types.specs.Lifting.{a_struct, struct_in}
 use Rattle.no_reread.proofs.Opening.{kept_value}
 use Rattle.no_reread.proofs.TypeHeads.{head_no_sign}
 use Rattle.no_relift.proofs.Renumbering.{out_at}

@@ -4,15 +4,15 @@ use Rattle.std.proofs.lemmas.List.{length-map}
 use Rattle.std.proofs.Math.ListN as listn
 use Rattle.no_lex.specs.declared.token.Token.{Token}
 use Rattle.no_ir.specs.declared.types.Ty.{Ty}
-use Rattle.no_grammar.specs.declared.fault.Stopped.{Stopped}
-use Rattle.no_grammar.specs.Scope.{Meaning}
-use Rattle.no_types.specs.declared.definition.Definition.{Definition}
-use Rattle.no_types.specs.declared.definition.Lifting.{Lifting}
-use Rattle.no_types.specs.declared.lifted.Lifted.{Lifted}
-use Rattle.no_types.specs.Graph.{references, graph_of, order_of, number_of}
-use Rattle.no_types.specs.Lifting.{in_types, names_from, type_definitions, lifting_of}
-use Rattle.no_types.specs.Lifted.{renumbered, picked, types_in, names_with, IsNumbered, Arranges, Follows, Lifts}
-use Rattle.no_types.proofs.LiftLaws.{lift_found}
+use Rattle.no_read_rules.specs.declared.fault.Stopped.{Stopped}
+use Rattle.no_read_rules.specs.Scope.{Meaning}
+use Rattle.no_read_types.specs.declared.definition.Definition.{Definition}
+use Rattle.no_read_types.specs.declared.definition.Lifting.{Lifting}
+use Rattle.no_read_types.specs.declared.lifted.Lifted.{Lifted}
+use Rattle.no_read_types.specs.Graph.{references, graph_of, order_of, number_of}
+use Rattle.no_read_types.specs.Lifting.{in_types, names_from, type_definitions, lifting_of}
+use Rattle.no_read_types.specs.Lifted.{renumbered, picked, types_in, names_with, IsNumbered, Arranges, Follows, Lifts}
+use Rattle.no_read_types.proofs.LiftLaws.{lift_found}
 use Rattle.no_relift.proofs.Defined.{WasRead, AreNamed, pieces_named}
 use Rattle.no_relift.proofs.Orders.{Below, IsOrder, IsLow, Whole, whole_order, order_below, order_apart, order_low}
 use Rattle.no_relift.proofs.Picks.{name_of, EachNew, Holds, names_added, order_new, order_renames, picks_are, picks_hold}

@@ -4,8 +4,8 @@ use Rattle.std.specs.List.{list_any}
 use Rattle.std.proofs.lemmas.Bool.{cases_lt, cases_eq, ltb-false, ltb-true, lt-ltb, le-ltb}
 use Rattle.std.proofs.lemmas.Bool.Decides.{eqb_tells}
 use Rattle.std.proofs.lemmas.List.{length-append, get_or_past}
-use Rattle.no_types.specs.Graph.{is_open, next_from, go_on, order_from, order_of, number_from, number_of, is_set, count_set, IsNumbering, AreSame}
-use Rattle.no_types.proofs.OrderLaws.{next_waits, numbering_starts, numbering_goes}
+use Rattle.no_read_types.specs.Graph.{is_open, next_from, go_on, order_from, order_of, number_from, number_of, is_set, count_set, IsNumbering, AreSame}
+use Rattle.no_read_types.proofs.OrderLaws.{next_waits, numbering_starts, numbering_goes}
 
 -- ---- what comes next refers to none that waits
 

@@ -9,9 +9,9 @@ use Rattle.std.proofs.lemmas.List.Quantifiers.{position-Some}
 use Rattle.std.proofs.lemmas.Option.{get_or_from_slice_get, slice_get-map}
 use Rattle.std.proofs.lemmas.Slice.Eq.{bytes_eq-Decides}
 use Rattle.no_ir.specs.Naming.{is_known}
-use Rattle.no_types.specs.declared.definition.Definition.{Definition}
-use Rattle.no_types.specs.Graph.{number_from, number_of}
-use Rattle.no_types.specs.Lifted.{as_list, picked, names_with}
+use Rattle.no_read_types.specs.declared.definition.Definition.{Definition}
+use Rattle.no_read_types.specs.Graph.{number_from, number_of}
+use Rattle.no_read_types.specs.Lifted.{as_list, picked, names_with}
 use Rattle.no_reread.proofs.Found.{same_bytes}
 use Rattle.no_relift.proofs.Orders.{Below, Apart, number_within}
 use Rattle.no_relift.proofs.Renaming.{Renames}

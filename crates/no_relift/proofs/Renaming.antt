@@ -6,18 +6,18 @@ use Rattle.no_lex.specs.declared.token.TokenKind.{TokenKind}
 use Rattle.no_lex.specs.declared.token.TokenKind.TheVariants as kind
 use Rattle.no_ir.specs.declared.types.Ty.{Ty}
 use Rattle.no_ir.specs.declared.types.Ty.TheVariants as ty
-use Rattle.no_grammar.specs.declared.fault.Flaw.{Flaw}
-use Rattle.no_grammar.specs.declared.fault.Flaw.TheVariants.{Syntax}
-use Rattle.no_grammar.specs.declared.types.TypeHead.{TypeHead}
-use Rattle.no_grammar.specs.declared.types.TypeHead.TheVariants as head
-use Rattle.no_grammar.specs.Lists.{closes_list, more_item, some_items, no_items, items}
-use Rattle.no_grammar.specs.Repeated.{repeat}
-use Rattle.no_grammar.specs.Rules.{Rule, plain, keeping, done, ◌>>=◌, choose, checked}
-use Rattle.no_grammar.specs.Scope.{Meaning}
-use Rattle.no_grammar.specs.Spelled.{spelled, a_word, a_sign}
-use Rattle.no_grammar.specs.Types.{word_type, sign_type, named_type, number_in, head_by, type_head, leaf_of, count_token, array_parts, struct_parts, packed_parts, after_type_head, a_type}
-use Rattle.no_grammar.specs.Unescaped.{name_of}
-use Rattle.no_types.specs.Lifted.{renumbered}
+use Rattle.no_read_rules.specs.declared.fault.Flaw.{Flaw}
+use Rattle.no_read_rules.specs.declared.fault.Flaw.TheVariants.{Syntax}
+use Rattle.no_read_rules.specs.declared.types.TypeHead.{TypeHead}
+use Rattle.no_read_rules.specs.declared.types.TypeHead.TheVariants as head
+use Rattle.no_read_rules.specs.Lists.{closes_list, more_item, some_items, no_items, items}
+use Rattle.no_read_rules.specs.Repeated.{repeat}
+use Rattle.no_read_rules.specs.Rules.{Rule, plain, keeping, done, ◌>>=◌, choose, checked}
+use Rattle.no_read_rules.specs.Scope.{Meaning}
+use Rattle.no_read_rules.specs.Spelled.{spelled, a_word, a_sign}
+use Rattle.no_read_rules.specs.Types.{word_type, sign_type, named_type, number_in, head_by, type_head, leaf_of, count_token, array_parts, struct_parts, packed_parts, after_type_head, a_type}
+use Rattle.no_read_rules.specs.Unescaped.{name_of}
+use Rattle.no_read_types.specs.Lifted.{renumbered}
 use Rattle.no_reread.proofs.Widths.{word_head}
 use Rattle.no_relift.proofs.Renumbering.{int_other, ptr_other, named_other, array_other, struct_other}
 

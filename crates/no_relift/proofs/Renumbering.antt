@@ -7,9 +7,9 @@ use Rattle.no_ir.specs.declared.types.Ty.TheFolds.{ind-Ty, fold-roll-Ty, map-Ty}
 use Rattle.no_ir.specs.declared.types.Ty.TheViews.{roll-out-Ty, out-roll-Ty}
 use Rattle.no_ir.specs.declared.types.Ty.TheVariants as ty
 use Rattle.no_ir.specs.declared.types.Ty.TheVariants.{rolls-Void, rolls-Int, rolls-Ptr, rolls-Array, rolls-Struct, rolls-Named}
-use Rattle.no_types.specs.Graph.{joined, reference_step, references}
-use Rattle.no_types.specs.Lifted.{renumber_step, renumbered}
-use Rattle.no_types.specs.Lifting.{a_struct, struct_in}
+use Rattle.no_read_types.specs.Graph.{joined, reference_step, references}
+use Rattle.no_read_types.specs.Lifted.{renumber_step, renumbered}
+use Rattle.no_read_types.specs.Lifting.{a_struct, struct_in}
 
 -- ---- form by form
 

@@ -7,21 +7,21 @@ use Rattle.no_lex.specs.declared.token.TokenKind.TheVariants as kind
 use Rattle.no_ir.specs.Naming.{is_known, with_name}
 use Rattle.no_ir.specs.declared.types.Ty.{Ty}
 use Rattle.no_ir.specs.declared.function.Module.{Module}
-use Rattle.no_grammar.specs.declared.fault.Flaw.{Flaw}
-use Rattle.no_grammar.specs.declared.fault.Flaw.TheVariants.{Syntax}
-use Rattle.no_grammar.specs.declared.fault.Stopped.{Stopped}
-use Rattle.no_grammar.specs.Rules.{keeping}
-use Rattle.no_grammar.specs.Scope.{Meaning}
-use Rattle.no_grammar.specs.Spelled.{is_kind, is_word, is_sign, only_where}
-use Rattle.no_grammar.specs.Types.{a_type}
-use Rattle.no_grammar.specs.Unescaped.{name_of}
-use Rattle.no_types.specs.declared.definition.Definition.{Definition}
-use Rattle.no_types.specs.declared.definition.Lifting.{Lifting}
-use Rattle.no_types.specs.declared.lifted.Lifted.{Lifted}
-use Rattle.no_types.specs.Graph.{references, graph_of, order_of, number_of}
-use Rattle.no_types.specs.Lifting.{name_at, begins_definition, added_name, new_name, a_definition, Piece, Kept, Defined, ArePieces, lifting_of, names_from, in_types, lift_all, type_definitions}
-use Rattle.no_types.specs.Lifted.{renumbered, as_list, picked, types_in, names_with, IsNumbered, Follows, Lifts}
-use Rattle.no_types.proofs.LiftLaws.{lift_only}
+use Rattle.no_read_rules.specs.declared.fault.Flaw.{Flaw}
+use Rattle.no_read_rules.specs.declared.fault.Flaw.TheVariants.{Syntax}
+use Rattle.no_read_rules.specs.declared.fault.Stopped.{Stopped}
+use Rattle.no_read_rules.specs.Rules.{keeping}
+use Rattle.no_read_rules.specs.Scope.{Meaning}
+use Rattle.no_read_rules.specs.Spelled.{is_kind, is_word, is_sign, only_where}
+use Rattle.no_read_rules.specs.Types.{a_type}
+use Rattle.no_read_rules.specs.Unescaped.{name_of}
+use Rattle.no_read_types.specs.declared.definition.Definition.{Definition}
+use Rattle.no_read_types.specs.declared.definition.Lifting.{Lifting}
+use Rattle.no_read_types.specs.declared.lifted.Lifted.{Lifted}
+use Rattle.no_read_types.specs.Graph.{references, graph_of, order_of, number_of}
+use Rattle.no_read_types.specs.Lifting.{name_at, begins_definition, added_name, new_name, a_definition, Piece, Kept, Defined, ArePieces, lifting_of, names_from, in_types, lift_all, type_definitions}
+use Rattle.no_read_types.specs.Lifted.{renumbered, as_list, picked, types_in, names_with, IsNumbered, Follows, Lifts}
+use Rattle.no_read_types.proofs.LiftLaws.{lift_only}
 use Rattle.no_print.specs.Constants.{Spelled}
 use Rattle.no_print.specs.Modules.{layout_pieces, named_pieces, each, spelled_in, module_pieces}
 use Rattle.no_print.specs.Names.{spelling}

@@ -2,8 +2,8 @@
 use Rattle.std.proofs.Common.{◌≡◌, ℕ, suc, ◌+◌, ◌-◌, ◌*◌, ◌<◌, Bool, true, false, ◌&&◌, ◌||◌, List, [], ◌∷◌, ◌==◌, nat_le, get_or, length, drop, ◌⊎◌, inl, inr, if◌then◌else◌, refl, arith}
 use Rattle.std.proofs.lemmas.Bool.{leb-true, lt-leb}
 use Rattle.no_lex.specs.declared.token.Token.{Token}
-use Rattle.no_grammar.specs.Spelled.{spelled}
-use Rattle.no_grammar.specs.Unescaped.{is_hex, hex_value, unescaped, inner, is_quoted, name_of}
+use Rattle.no_read_rules.specs.Spelled.{spelled}
+use Rattle.no_read_rules.specs.Unescaped.{is_hex, hex_value, unescaped, inner, is_quoted, name_of}
 use Rattle.no_reread.specs.Spells.{AreBytes}
 use Rattle.no_reread.proofs.Found.{bytes_take, bytes_drop}
 

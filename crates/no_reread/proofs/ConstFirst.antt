@@ -9,23 +9,23 @@ use Rattle.no_ir.specs.declared.types.Ty.TheOpen.{Ty-F}
 use Rattle.no_ir.specs.declared.types.Ty.TheVariants as ty
 use Rattle.no_ir.specs.declared.types.Ty.TheVariants.{rolls-Void, rolls-Int, rolls-Ptr, rolls-Array, rolls-Struct, rolls-Named}
 use Rattle.no_ir.specs.declared.types.Ty.TheViews.{out-roll-Ty}
-use Rattle.no_grammar.specs.declared.fault.Flaw.{Flaw}
-use Rattle.no_grammar.specs.declared.fault.Flaw.TheVariants.{Syntax}
-use Rattle.no_grammar.specs.declared.types.TypeHead.{TypeHead}
-use Rattle.no_grammar.specs.declared.types.TypeHead.TheVariants as type_of
-use Rattle.no_grammar.specs.Rules.{Rule, plain}
-use Rattle.no_grammar.specs.Scope.{Meaning}
-use Rattle.no_grammar.specs.Spelled.{spelled, kind_number, is_kind, is_word}
-use Rattle.no_grammar.specs.Types.{type_head, leaf_of, array_parts, struct_parts, packed_parts, after_type_head, a_type}
-use Rattle.no_grammar.specs.Unescaped.{name_of}
-use Rattle.no_values.specs.Places.{symbol_named, bare_or, place_head, after_place_head, a_place, begins_place}
-use Rattle.no_values.specs.declared.places.PlaceHead.{PlaceHead}
-use Rattle.no_values.specs.Constants.{named_in, resolved, shape_in, as_int, word_const, leaf_by, leaf_head, bracket_at, as_leaf, const_by, const_head}
-use Rattle.no_values.specs.declared.constants.Shape.{Shape}
-use Rattle.no_values.specs.declared.constants.Shape.TheVariants as shape
-use Rattle.no_values.specs.declared.constants.LeafHead.{LeafHead}
-use Rattle.no_values.specs.declared.constants.ConstHead.{ConstHead}
-use Rattle.no_values.specs.declared.constants.ConstHead.TheVariants as head
+use Rattle.no_read_rules.specs.declared.fault.Flaw.{Flaw}
+use Rattle.no_read_rules.specs.declared.fault.Flaw.TheVariants.{Syntax}
+use Rattle.no_read_rules.specs.declared.types.TypeHead.{TypeHead}
+use Rattle.no_read_rules.specs.declared.types.TypeHead.TheVariants as type_of
+use Rattle.no_read_rules.specs.Rules.{Rule, plain}
+use Rattle.no_read_rules.specs.Scope.{Meaning}
+use Rattle.no_read_rules.specs.Spelled.{spelled, kind_number, is_kind, is_word}
+use Rattle.no_read_rules.specs.Types.{type_head, leaf_of, array_parts, struct_parts, packed_parts, after_type_head, a_type}
+use Rattle.no_read_rules.specs.Unescaped.{name_of}
+use Rattle.no_read_constants.specs.Places.{symbol_named, bare_or, place_head, after_place_head, a_place, begins_place}
+use Rattle.no_read_constants.specs.declared.places.PlaceHead.{PlaceHead}
+use Rattle.no_read_constants.specs.Constants.{named_in, resolved, shape_in, as_int, word_const, leaf_by, leaf_head, bracket_at, as_leaf, const_by, const_head}
+use Rattle.no_read_constants.specs.declared.constants.Shape.{Shape}
+use Rattle.no_read_constants.specs.declared.constants.Shape.TheVariants as shape
+use Rattle.no_read_constants.specs.declared.constants.LeafHead.{LeafHead}
+use Rattle.no_read_constants.specs.declared.constants.ConstHead.{ConstHead}
+use Rattle.no_read_constants.specs.declared.constants.ConstHead.TheVariants as head
 use Rattle.no_reread.specs.Spells.{AreBytes, WidthFits, TypeFits, TypesFit}
 use Rattle.no_reread.proofs.Opening.{Opens, kept_value, plain_opens, then_opens}
 use Rattle.no_reread.proofs.TypeHeads.{HeadAgain, head_again}

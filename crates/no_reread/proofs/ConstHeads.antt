@@ -6,16 +6,16 @@ use Rattle.no_lex.specs.declared.token.TokenKind.{TokenKind}
 use Rattle.no_lex.specs.declared.token.TokenKind.TheVariants as kind
 use Rattle.no_ir.specs.declared.types.Ty.{Ty}
 use Rattle.no_ir.specs.declared.types.Ty.TheOpen.{Ty-F}
-use Rattle.no_grammar.specs.declared.fault.Flaw.{Flaw}
-use Rattle.no_grammar.specs.Numbers.{integer_at}
-use Rattle.no_grammar.specs.Rules.{plain}
-use Rattle.no_values.specs.Places.{truth_at}
-use Rattle.no_values.specs.Constants.{shape_in, zero_at, null_at, as_int, word_at, word_const, integer_in, leaf_by, leaf_head, as_leaf, const_by, const_head}
-use Rattle.no_values.specs.declared.constants.Shape.{Shape}
-use Rattle.no_values.specs.declared.constants.Shape.TheVariants as shape
-use Rattle.no_values.specs.declared.constants.LeafHead.{LeafHead}
-use Rattle.no_values.specs.declared.constants.LeafHead.TheVariants as leaf
-use Rattle.no_values.specs.declared.constants.ConstHead.TheVariants as head
+use Rattle.no_read_rules.specs.declared.fault.Flaw.{Flaw}
+use Rattle.no_read_rules.specs.Numbers.{integer_at}
+use Rattle.no_read_rules.specs.Rules.{plain}
+use Rattle.no_read_constants.specs.Places.{truth_at}
+use Rattle.no_read_constants.specs.Constants.{shape_in, zero_at, null_at, as_int, word_at, word_const, integer_in, leaf_by, leaf_head, as_leaf, const_by, const_head}
+use Rattle.no_read_constants.specs.declared.constants.Shape.{Shape}
+use Rattle.no_read_constants.specs.declared.constants.Shape.TheVariants as shape
+use Rattle.no_read_constants.specs.declared.constants.LeafHead.{LeafHead}
+use Rattle.no_read_constants.specs.declared.constants.LeafHead.TheVariants as leaf
+use Rattle.no_read_constants.specs.declared.constants.ConstHead.TheVariants as head
 use Rattle.no_print.specs.Pieces.{Piece, piece, word}
 use Rattle.no_print.specs.Names.{signed, truth, number}
 use Rattle.no_print.specs.Constants.{zero_in, width_in}

@@ -8,22 +8,22 @@ use Rattle.no_ir.specs.declared.types.Ty.TheOpen.{Ty-F}
 use Rattle.no_ir.specs.declared.constant.Const.{Const}
 use Rattle.no_ir.specs.declared.constant.Const.TheVariants as const
 use Rattle.no_ir.specs.declared.constant.Place.{Place}
-use Rattle.no_grammar.specs.declared.fault.Flaw.{Flaw}
-use Rattle.no_grammar.specs.declared.fault.Flaw.TheVariants.{Syntax}
-use Rattle.no_grammar.specs.Lists.{closes_list, items}
-use Rattle.no_grammar.specs.Rules.{Rule, plain, done, ◌>>=◌, checked, choose, if_next, IsSolid}
-use Rattle.no_grammar.specs.Scope.{Meaning}
-use Rattle.no_grammar.specs.Spelled.{spelled, kind_number, is_kind, is_sign}
-use Rattle.no_grammar.specs.Types.{a_type, must_be, sign_type}
-use Rattle.no_grammar.specs.Unescaped.{unescaped, inner}
-use Rattle.no_grammar.proofs.Laws.{first_solid, checked_solid}
-use Rattle.no_grammar.proofs.TypeLaws.{type_solid}
-use Rattle.no_values.specs.Places.{width_of, number_at, number_by, a_place, begins_place}
-use Rattle.no_values.specs.Constants.{named_in, resolved, shape_in, shape_of, element_in, fields_in, leaf_head, const_by, const_head, text_of, ptr_to_int, int_to_ptr, after_leaf, address, member, next_field, end_or, more_fields, some_fields, no_fields, fields, array_const, struct_const, packed_const, after_head, flat_const, bracket_const, a_const}
-use Rattle.no_values.specs.declared.constants.LeafHead.{LeafHead}
-use Rattle.no_values.specs.declared.constants.LeafHead.TheVariants as leaf
-use Rattle.no_values.specs.declared.constants.ConstHead.{ConstHead}
-use Rattle.no_values.specs.declared.constants.ConstHead.TheVariants as head
+use Rattle.no_read_rules.specs.declared.fault.Flaw.{Flaw}
+use Rattle.no_read_rules.specs.declared.fault.Flaw.TheVariants.{Syntax}
+use Rattle.no_read_rules.specs.Lists.{closes_list, items}
+use Rattle.no_read_rules.specs.Rules.{Rule, plain, done, ◌>>=◌, checked, choose, if_next, IsSolid}
+use Rattle.no_read_rules.specs.Scope.{Meaning}
+use Rattle.no_read_rules.specs.Spelled.{spelled, kind_number, is_kind, is_sign}
+use Rattle.no_read_rules.specs.Types.{a_type, must_be, sign_type}
+use Rattle.no_read_rules.specs.Unescaped.{unescaped, inner}
+use Rattle.no_read_rules.proofs.Laws.{first_solid, checked_solid}
+use Rattle.no_read_rules.proofs.TypeLaws.{type_solid}
+use Rattle.no_read_constants.specs.Places.{width_of, number_at, number_by, a_place, begins_place}
+use Rattle.no_read_constants.specs.Constants.{named_in, resolved, shape_in, shape_of, element_in, fields_in, leaf_head, const_by, const_head, text_of, ptr_to_int, int_to_ptr, after_leaf, address, member, next_field, end_or, more_fields, some_fields, no_fields, fields, array_const, struct_const, packed_const, after_head, flat_const, bracket_const, a_const}
+use Rattle.no_read_constants.specs.declared.constants.LeafHead.{LeafHead}
+use Rattle.no_read_constants.specs.declared.constants.LeafHead.TheVariants as leaf
+use Rattle.no_read_constants.specs.declared.constants.ConstHead.{ConstHead}
+use Rattle.no_read_constants.specs.declared.constants.ConstHead.TheVariants as head
 use Rattle.no_print.specs.Names.{quoted, string, signed, number, int_type}
 use Rattle.no_print.specs.Pieces.{Piece, glued, spaced, word, sign, integer, comma, behind_commas, with_commas}
 use Rattle.no_print.specs.Types.{type_pieces, in_braces}

@@ -1,8 +1,8 @@
 -- What rules spell that say with which tokens they would go on.
 use Rattle.std.proofs.Common.{ℕ, Bool, true, false, List, [], ◌∷◌, ◌++◌, Some, None}
 use Rattle.no_lex.specs.declared.token.Token.{Token}
-use Rattle.no_grammar.specs.Rules.{Rule, done, ◌>>=◌}
-use Rattle.no_attrs.specs.Ending.{ahead, more_where, items_where}
+use Rattle.no_read_rules.specs.Rules.{Rule, done, ◌>>=◌}
+use Rattle.no_read_attributes.specs.Ending.{ahead, more_where, items_where}
 use Rattle.no_print.specs.Pieces.{Piece}
 use Rattle.no_reread.specs.Spells.{Spells}
 use Rattle.no_reread.proofs.Frame.{done_spells, made_spells, yes_spells, no_spells}

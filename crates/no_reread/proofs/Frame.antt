@@ -2,9 +2,9 @@
 use Rattle.std.proofs.Common.{append-nil, ◌≡◌, ℕ, Bool, true, false, List, [], ◌∷◌, ◌++◌, Result, Ok, inl, inr, refl, ap, subst, ◌∙◌}
 use Rattle.no_lex.specs.declared.token.Token.{Token}
 use Rattle.no_lex.specs.declared.token.TokenKind.{TokenKind}
-use Rattle.no_grammar.specs.declared.fault.Flaw.{Flaw}
-use Rattle.no_grammar.specs.Rules.{Rule, one, keeping, plain, done, ◌>>=◌, lift, if_next, checked}
-use Rattle.no_grammar.specs.Spelled.{spelled}
+use Rattle.no_read_rules.specs.declared.fault.Flaw.{Flaw}
+use Rattle.no_read_rules.specs.Rules.{Rule, one, keeping, plain, done, ◌>>=◌, lift, if_next, checked}
+use Rattle.no_read_rules.specs.Spelled.{spelled}
 use Rattle.no_print.specs.Pieces.{Piece}
 use Rattle.no_print.specs.Stand.{IsPiece}
 use Rattle.no_reread.specs.Spells.{Spells}

@@ -1,10 +1,10 @@
 -- Items that were read are spelled again.
 use Rattle.std.proofs.Common.{◌≡◌, ℕ, Bool, true, false, List, [], ◌∷◌, ◌++◌, Some, None, inl, inr, refl, sym, subst, ◌∙◌}
 use Rattle.no_lex.specs.declared.token.Token.{Token}
-use Rattle.no_grammar.specs.Rules.{Rule, done, ◌>>=◌, choose}
-use Rattle.no_grammar.specs.Repeated.{IsRepeated}
-use Rattle.no_grammar.specs.Spelled.{is_sign}
-use Rattle.no_grammar.specs.Lists.{closes_list, more_item, some_items, no_items, items}
+use Rattle.no_read_rules.specs.Rules.{Rule, done, ◌>>=◌, choose}
+use Rattle.no_read_rules.specs.Repeated.{IsRepeated}
+use Rattle.no_read_rules.specs.Spelled.{is_sign}
+use Rattle.no_read_rules.specs.Lists.{closes_list, more_item, some_items, no_items, items}
 use Rattle.no_print.specs.Pieces.{Piece, sign, spaced, with_commas}
 use Rattle.no_reread.specs.Spells.{Spells, Again}
 use Rattle.no_reread.proofs.Opening.{Opens, kept_state}

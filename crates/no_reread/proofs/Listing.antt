@@ -2,12 +2,12 @@
 use Rattle.std.proofs.Common.{◌≡◌, ℕ, Bool, true, false, List, [], ◌∷◌, ◌++◌, bytes_eq, codes, Option, Some, None, Result, Ok, Err, if◌then◌else◌, sym, ap, subst, ◌∙◌, append_assoc, append-nil}
 use Rattle.no_lex.specs.declared.token.TokenKind.{TokenKind}
 use Rattle.no_lex.specs.declared.token.TokenKind.TheVariants as kind
-use Rattle.no_grammar.specs.declared.fault.Flaw.{Flaw}
-use Rattle.no_grammar.specs.declared.fault.Flaw.TheVariants.{Syntax}
-use Rattle.no_grammar.specs.Rules.{Rule, plain, done, ◌>>=◌, choose}
-use Rattle.no_grammar.specs.Repeated.{repeat}
-use Rattle.no_grammar.specs.Spelled.{is_sign, only_where, a_word, a_sign}
-use Rattle.no_grammar.specs.Lists.{closes_list, more_item, some_items, no_items, items}
+use Rattle.no_read_rules.specs.declared.fault.Flaw.{Flaw}
+use Rattle.no_read_rules.specs.declared.fault.Flaw.TheVariants.{Syntax}
+use Rattle.no_read_rules.specs.Rules.{Rule, plain, done, ◌>>=◌, choose}
+use Rattle.no_read_rules.specs.Repeated.{repeat}
+use Rattle.no_read_rules.specs.Spelled.{is_sign, only_where, a_word, a_sign}
+use Rattle.no_read_rules.specs.Lists.{closes_list, more_item, some_items, no_items, items}
 use Rattle.no_print.specs.Pieces.{Piece, word, sign, comma, spaced, behind_commas, with_commas}
 use Rattle.no_reread.specs.Spells.{Spells}
 use Rattle.no_reread.proofs.Standing.{stand_parts, Begins, begins, piece_is_word, piece_is_sign, sign_tested}

@@ -3,7 +3,7 @@ use Rattle.std.proofs.Common.{◌≡◌, ℕ, ◌+◌, ◌-◌, ◌*◌, ◌/◌
 use Rattle.std.proofs.lemmas.Bool.{le-leb, lt-leb, eqb-true, ne_eqb, ltb-true, ltb-false}
 use Rattle.std.proofs.Math.Seq.{take-append_seam}
 use Rattle.no_lex.specs.Spelling.{is_name}
-use Rattle.no_grammar.specs.Unescaped.{is_hex, hex_value, unescaped, inner, name_of}
+use Rattle.no_read_rules.specs.Unescaped.{is_hex, hex_value, unescaped, inner, name_of}
 use Rattle.no_reread.specs.Spells.{AreBytes}
 use Rattle.no_print.specs.Names.{hex_digit, is_plain, escaped_byte, escaped, quoted, spelling}
 

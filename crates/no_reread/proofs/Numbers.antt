@@ -7,8 +7,8 @@ use Rattle.std.proofs.lemmas.Bool.{le-leb, ne_eqb, lt-ltb, le-ltb, ltb-true, ltb
 use Rattle.std.proofs.lemmas.Fmt.{decimal_is_IsNumeral}
 use Rattle.std.proofs.lemmas.Str.{digit_value_digit}
 use Rattle.std.proofs.lemmas.Str.Parse.{digit_from_value}
-use Rattle.no_grammar.specs.Numbers.{number_from, is_negative, digits_of, kept, integer_at, counted, count_of}
-use Rattle.no_grammar.specs.Numbers as numbers
+use Rattle.no_read_rules.specs.Numbers.{number_from, is_negative, digits_of, kept, integer_at, counted, count_of}
+use Rattle.no_read_rules.specs.Numbers as numbers
 use Rattle.no_print.specs.Names.{signed, fits_i32}
 
 -- ---- digits

@@ -1,8 +1,8 @@
 -- With which tokens a rule begins.
 use Rattle.std.proofs.Common.{◌≡◌, ℕ, Bool, List, [], ◌∷◌, ◌++◌, Result, Ok, Err, inl, inr, sym, ap}
 use Rattle.no_lex.specs.declared.token.Token.{Token}
-use Rattle.no_grammar.specs.declared.fault.Flaw.{Flaw}
-use Rattle.no_grammar.specs.Rules.{Rule, one, keeping, plain, ◌>>=◌, lift, next_is, if_next, checked}
+use Rattle.no_read_rules.specs.declared.fault.Flaw.{Flaw}
+use Rattle.no_read_rules.specs.Rules.{Rule, one, keeping, plain, ◌>>=◌, lift, next_is, if_next, checked}
 use Rattle.no_print.specs.Pieces.{Piece}
 use Rattle.no_reread.specs.Spells.{Spells}
 use Rattle.no_reread.proofs.Standing.{stand_parts, Begins}

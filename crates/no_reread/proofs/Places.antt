@@ -9,22 +9,22 @@ use Rattle.no_ir.specs.declared.types.Ty.{Ty}
 use Rattle.no_ir.specs.declared.types.Ty.TheVariants as ty
 use Rattle.no_ir.specs.declared.constant.Symbol.{Symbol}
 use Rattle.no_ir.specs.declared.constant.Place.{Place}
-use Rattle.no_grammar.specs.declared.fault.Flaw.{Flaw}
-use Rattle.no_grammar.specs.declared.fault.Flaw.TheVariants.{Syntax, Number}
-use Rattle.no_grammar.specs.declared.types.TypeHead.{TypeHead}
-use Rattle.no_grammar.specs.declared.types.TypeHead.TheVariants as head
-use Rattle.no_grammar.specs.Lists.{more_item}
-use Rattle.no_grammar.specs.Numbers.{is_negative, digits_of, kept, integer_at}
-use Rattle.no_grammar.specs.Numbers as numbers
-use Rattle.no_grammar.specs.Repeated.{repeat}
-use Rattle.no_grammar.specs.Rules.{plain, done, ◌>>=◌}
-use Rattle.no_grammar.specs.Scope.{Meaning}
-use Rattle.no_grammar.specs.Spelled.{spelled, kind_number, is_kind, is_word}
-use Rattle.no_grammar.specs.Types.{a_type, word_type}
-use Rattle.no_grammar.specs.Unescaped.{name_of}
-use Rattle.no_values.specs.Places.{or_global, symbol_named, symbol_of, int_width, width_of, truth_at, number_by, number_at, with_sign, is_flag, an_index, indices, gep_parts, bare_or, place_head, after_place_head, a_place}
-use Rattle.no_values.specs.declared.places.PlaceHead.{PlaceHead}
-use Rattle.no_values.specs.declared.places.PlaceHead.TheVariants.{Bare, Gep}
+use Rattle.no_read_rules.specs.declared.fault.Flaw.{Flaw}
+use Rattle.no_read_rules.specs.declared.fault.Flaw.TheVariants.{Syntax, Number}
+use Rattle.no_read_rules.specs.declared.types.TypeHead.{TypeHead}
+use Rattle.no_read_rules.specs.declared.types.TypeHead.TheVariants as head
+use Rattle.no_read_rules.specs.Lists.{more_item}
+use Rattle.no_read_rules.specs.Numbers.{is_negative, digits_of, kept, integer_at}
+use Rattle.no_read_rules.specs.Numbers as numbers
+use Rattle.no_read_rules.specs.Repeated.{repeat}
+use Rattle.no_read_rules.specs.Rules.{plain, done, ◌>>=◌}
+use Rattle.no_read_rules.specs.Scope.{Meaning}
+use Rattle.no_read_rules.specs.Spelled.{spelled, kind_number, is_kind, is_word}
+use Rattle.no_read_rules.specs.Types.{a_type, word_type}
+use Rattle.no_read_rules.specs.Unescaped.{name_of}
+use Rattle.no_read_constants.specs.Places.{or_global, symbol_named, symbol_of, int_width, width_of, truth_at, number_by, number_at, with_sign, is_flag, an_index, indices, gep_parts, bare_or, place_head, after_place_head, a_place}
+use Rattle.no_read_constants.specs.declared.places.PlaceHead.{PlaceHead}
+use Rattle.no_read_constants.specs.declared.places.PlaceHead.TheVariants.{Bare, Gep}
 use Rattle.no_print.specs.Names.{spelling, global_name, int_type, signed}
 use Rattle.no_print.specs.Pieces.{Piece, glued, spaced, word, sign, integer, comma, behind_commas}
 use Rattle.no_print.specs.Types.{type_pieces}

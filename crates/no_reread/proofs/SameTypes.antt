@@ -5,10 +5,10 @@ use Rattle.no_ir.specs.declared.types.Ty.{Ty, out-Ty, roll-Ty}
 use Rattle.no_ir.specs.declared.types.Ty.TheOpen.{Ty-F}
 use Rattle.no_ir.specs.declared.types.Ty.TheFolds.{ind-Ty, fold-roll-Ty, map-Ty}
 use Rattle.no_ir.specs.declared.types.Ty.TheViews.{roll-out-Ty}
-use Rattle.no_grammar.specs.declared.fault.Flaw.{Flaw}
-use Rattle.no_grammar.specs.Types.{same_type, same_step, pairs, same_bit, must_be}
+use Rattle.no_read_rules.specs.declared.fault.Flaw.{Flaw}
+use Rattle.no_read_rules.specs.Types.{same_type, same_step, pairs, same_bit, must_be}
 use Rattle.std.specs.Prelude.{Result, Ok, Err}
-use Rattle.no_grammar.specs.declared.fault.Flaw.TheVariants.{Syntax}
+use Rattle.no_read_rules.specs.declared.fault.Flaw.TheVariants.{Syntax}
 
 same_bits : (p q : Bool) → same_bit p q ≡ true → p ≡ q
 same_bits true true e = refl

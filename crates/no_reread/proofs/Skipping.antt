@@ -1,9 +1,9 @@
 -- What rules with something in front spell: words that are skipped, and options.
 use Rattle.std.proofs.Common.{ℕ, Bool, true, false, List, [], Some, None, refl}
 use Rattle.no_lex.specs.declared.token.Token.{Token}
-use Rattle.no_grammar.specs.Rules.{Rule, done, change, ◌>>=◌, maybe}
+use Rattle.no_read_rules.specs.Rules.{Rule, done, change, ◌>>=◌, maybe}
 use Rattle.no_print.specs.Pieces.{Piece}
-use Rattle.no_values.specs.Skipped.{behind}
+use Rattle.no_read_constants.specs.Skipped.{behind}
 use Rattle.no_reread.specs.Spells.{Spells}
 use Rattle.no_reread.proofs.Frame.{done_spells, made_spells, yes_spells, no_spells}
 use Rattle.no_reread.proofs.Standing.{Begins, begins_none, stand_none}

@@ -4,8 +4,8 @@ use Rattle.std.specs.Prelude.{bytes_eq}
 use Rattle.no_lex.specs.declared.token.Token.{Token}
 use Rattle.no_lex.specs.declared.token.TokenKind.{TokenKind}
 use Rattle.no_lex.specs.declared.token.TokenKind.TheVariants.{Word, Sign}
-use Rattle.no_grammar.specs.Rules.{next_is}
-use Rattle.no_grammar.specs.Spelled.{spelled, kind_number, is_kind, is_word, is_sign}
+use Rattle.no_read_rules.specs.Rules.{next_is}
+use Rattle.no_read_rules.specs.Spelled.{spelled, kind_number, is_kind, is_word, is_sign}
 use Rattle.no_print.specs.Pieces.{Piece}
 use Rattle.no_print.specs.Stand.{IsPiece, Stand}
 

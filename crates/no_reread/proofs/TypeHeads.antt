@@ -5,17 +5,17 @@ use Rattle.std.proofs.lemmas.Slice.Eq.{bytes_eq-Decides}
 use Rattle.no_lex.specs.declared.token.Token.{Token}
 use Rattle.no_lex.specs.declared.token.TokenKind.{TokenKind}
 use Rattle.no_lex.specs.declared.token.TokenKind.TheVariants as kind
-use Rattle.no_grammar.specs.declared.fault.Flaw.{Flaw}
-use Rattle.no_grammar.specs.declared.fault.Flaw.TheVariants.{Syntax}
-use Rattle.no_grammar.specs.declared.types.TypeHead.{TypeHead}
-use Rattle.no_grammar.specs.declared.types.TypeHead.TheVariants as head
-use Rattle.no_grammar.specs.Numbers.{number_from, is_negative, counted, count_of}
-use Rattle.no_grammar.specs.Numbers as numbers
-use Rattle.no_grammar.specs.Rules.{plain}
-use Rattle.no_grammar.specs.Scope.{Meaning}
-use Rattle.no_grammar.specs.Spelled.{spelled, kind_number, is_kind, is_sign}
-use Rattle.no_grammar.specs.Types.{sign_type, named_type, number_in, head_by, type_head, count_token}
-use Rattle.no_grammar.specs.Unescaped.{name_of}
+use Rattle.no_read_rules.specs.declared.fault.Flaw.{Flaw}
+use Rattle.no_read_rules.specs.declared.fault.Flaw.TheVariants.{Syntax}
+use Rattle.no_read_rules.specs.declared.types.TypeHead.{TypeHead}
+use Rattle.no_read_rules.specs.declared.types.TypeHead.TheVariants as head
+use Rattle.no_read_rules.specs.Numbers.{number_from, is_negative, counted, count_of}
+use Rattle.no_read_rules.specs.Numbers as numbers
+use Rattle.no_read_rules.specs.Rules.{plain}
+use Rattle.no_read_rules.specs.Scope.{Meaning}
+use Rattle.no_read_rules.specs.Spelled.{spelled, kind_number, is_kind, is_sign}
+use Rattle.no_read_rules.specs.Types.{sign_type, named_type, number_in, head_by, type_head, count_token}
+use Rattle.no_read_rules.specs.Unescaped.{name_of}
 use Rattle.no_print.specs.Names.{name_at, spelling, int_type, local_name}
 use Rattle.no_print.specs.Pieces.{Piece, word, sign, integer}
 use Rattle.no_reread.specs.Spells.{AreBytes, Spells, over}

@@ -3,16 +3,16 @@ use Rattle.std.proofs.Common.{◌≡◌, ℕ, suc, zero, ◌<◌, ◌^◌, true,
 use Rattle.no_lex.specs.declared.token.Token.{Token}
 use Rattle.no_ir.specs.declared.types.Ty.{Ty}
 use Rattle.no_ir.specs.declared.types.Ty.TheVariants as ty
-use Rattle.no_grammar.specs.declared.fault.Flaw.{Flaw}
-use Rattle.no_grammar.specs.declared.fault.Flaw.TheVariants.{Syntax}
-use Rattle.no_grammar.specs.declared.types.TypeHead.{TypeHead}
-use Rattle.no_grammar.specs.declared.types.TypeHead.TheVariants as head
-use Rattle.no_grammar.specs.Lists.{items}
-use Rattle.no_grammar.specs.Rules.{Rule, plain, done, ◌>>=◌, checked, IsSolid}
-use Rattle.no_grammar.specs.Scope.{Meaning}
-use Rattle.no_grammar.specs.Spelled.{is_sign, a_word, a_sign}
-use Rattle.no_grammar.specs.Types.{sign_type, type_head, leaf_of, count_token, array_parts, struct_parts, packed_parts, after_type_head, a_type, must_be}
-use Rattle.no_grammar.proofs.TypeLaws.{type_solid}
+use Rattle.no_read_rules.specs.declared.fault.Flaw.{Flaw}
+use Rattle.no_read_rules.specs.declared.fault.Flaw.TheVariants.{Syntax}
+use Rattle.no_read_rules.specs.declared.types.TypeHead.{TypeHead}
+use Rattle.no_read_rules.specs.declared.types.TypeHead.TheVariants as head
+use Rattle.no_read_rules.specs.Lists.{items}
+use Rattle.no_read_rules.specs.Rules.{Rule, plain, done, ◌>>=◌, checked, IsSolid}
+use Rattle.no_read_rules.specs.Scope.{Meaning}
+use Rattle.no_read_rules.specs.Spelled.{is_sign, a_word, a_sign}
+use Rattle.no_read_rules.specs.Types.{sign_type, type_head, leaf_of, count_token, array_parts, struct_parts, packed_parts, after_type_head, a_type, must_be}
+use Rattle.no_read_rules.proofs.TypeLaws.{type_solid}
 use Rattle.no_print.specs.Pieces.{Piece, glued, spaced, word, sign, integer, behind_commas, with_commas}
 use Rattle.no_print.specs.Types.{in_braces, type_pieces}
 use Rattle.no_reread.specs.Spells.{AreBytes, Spells, Again, over}

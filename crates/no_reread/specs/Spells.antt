@@ -3,8 +3,8 @@ use Rattle.std.specs.Prelude.{ℕ, ◌<◌, ◌≤◌, List, [], ◌∷◌}
 use Rattle.no_ir.specs.declared.types.Ty.{Ty, out-Ty}
 use Rattle.no_ir.specs.declared.types.Ty.TheOpen.{Ty-F}
 use Rattle.no_lex.specs.declared.token.Token.{Token}
-use Rattle.no_grammar.specs.Rules.{Rule}
-use Rattle.no_grammar.specs.Scope.{Meaning}
+use Rattle.no_read_rules.specs.Rules.{Rule}
+use Rattle.no_read_rules.specs.Scope.{Meaning}
 use Rattle.no_print.specs.Pieces.{Piece}
 use Rattle.no_print.specs.Stand.{Stand}
 use Rattle.no_print.specs.Constants.{Spelled}

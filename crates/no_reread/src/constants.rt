@@ -3,9 +3,9 @@ ghost use Rattle.no_ir.specs.declared.types.Ty.{Ty};
 ghost use Rattle.no_ir.specs.declared.constant.Const.{Const};
 ghost use Rattle.no_ir.specs.declared.constant.Place.{Place};
 ghost use Rattle.no_lex.specs.declared.token.Token.{Token};
-ghost use Rattle.no_grammar.specs.Scope.{Meaning};
-ghost use Rattle.no_values.specs.Constants.{a_const};
-ghost use Rattle.no_values.specs.Places.{a_place};
+ghost use Rattle.no_read_rules.specs.Scope.{Meaning};
+ghost use Rattle.no_read_constants.specs.Constants.{a_const};
+ghost use Rattle.no_read_constants.specs.Places.{a_place};
 ghost use Rattle.no_print.specs.Constants.{const_pieces, place_pieces};
 ghost use Rattle.no_reread.specs.Spells.{AreBytes, Spells, TypeFits, TypesFit, over, spelled_by};
 

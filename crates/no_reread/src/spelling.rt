@@ -1,9 +1,9 @@
 ghost use Rattle.std.specs.Prelude.{ℕ, ◌<◌, ◌≤◌, ◌^◌, List, ◌∷◌, ◌≡◌, Ok, decimal};
 ghost use Rattle.std.specs.Fmt.{signed_decimal};
-ghost use Rattle.no_grammar.specs.declared.types.TypeHead.TheVariants;
-ghost use Rattle.no_grammar.specs.Types.{word_type};
-ghost use Rattle.no_grammar.specs.Numbers.{integer_at, count_of};
-ghost use Rattle.no_grammar.specs.Unescaped.{unescaped, inner, name_of};
+ghost use Rattle.no_read_rules.specs.declared.types.TypeHead.TheVariants;
+ghost use Rattle.no_read_rules.specs.Types.{word_type};
+ghost use Rattle.no_read_rules.specs.Numbers.{integer_at, count_of};
+ghost use Rattle.no_read_rules.specs.Unescaped.{unescaped, inner, name_of};
 ghost use Rattle.no_print.specs.Constants.{index_width};
 ghost use Rattle.no_print.specs.Names.{quoted, signed, spelling};
 ghost use Rattle.no_reread.specs.Spells.{AreBytes};

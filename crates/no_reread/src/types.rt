@@ -1,9 +1,9 @@
 ghost use Rattle.std.specs.Prelude.{ℕ, List, ◌≡◌, Ok};
 ghost use Rattle.no_ir.specs.declared.types.Ty.{Ty};
 ghost use Rattle.no_lex.specs.declared.token.Token.{Token};
-ghost use Rattle.no_grammar.specs.Rules.{checked};
-ghost use Rattle.no_grammar.specs.Scope.{Meaning};
-ghost use Rattle.no_grammar.specs.Types.{a_type, must_be};
+ghost use Rattle.no_read_rules.specs.Rules.{checked};
+ghost use Rattle.no_read_rules.specs.Scope.{Meaning};
+ghost use Rattle.no_read_rules.specs.Types.{a_type, must_be};
 ghost use Rattle.no_print.specs.Types.{type_pieces};
 ghost use Rattle.no_reread.specs.Spells.{AreBytes, Spells, TypeFits, over};
 

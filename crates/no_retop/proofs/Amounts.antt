@@ -4,9 +4,9 @@ use Rattle.std.specs.Str.Parse.{AllDigits}
 use Rattle.std.proofs.lemmas.Bool.{leb-true}
 use Rattle.std.proofs.lemmas.Fmt.{decimal_is_IsNumeral, decimal_nonempty}
 use Rattle.std.proofs.lemmas.Str.Parse.{digit_from_value}
-use Rattle.no_grammar.specs.Numbers.{number_from}
-use Rattle.no_grammar.specs.Numbers as numbers
-use Rattle.no_attrs.specs.Attributes.{address_of}
+use Rattle.no_read_rules.specs.Numbers.{number_from}
+use Rattle.no_read_rules.specs.Numbers as numbers
+use Rattle.no_read_attributes.specs.Attributes.{address_of}
 use Rattle.no_reread.specs.Spells.{AreBytes}
 use Rattle.no_reread.proofs.Numbers.{decimal_again}
 

@@ -3,10 +3,10 @@ use Rattle.std.proofs.Common.{ℕ, List, [], ◌++◌, codes, sym, append-nil}
 use Rattle.no_ir.specs.declared.function.Block.{Block}
 use Rattle.no_ir.specs.declared.function.Role.{Role}
 use Rattle.no_lex.specs.declared.token.Token.{Token}
-use Rattle.no_grammar.specs.Scope.{Meaning}
-use Rattle.no_blocks.specs.Blocks.{body}
-use Rattle.no_instr.specs.Instructions.{an_instr}
-use Rattle.no_locals.specs.declared.locals.Locals.{Locals}
+use Rattle.no_read_rules.specs.Scope.{Meaning}
+use Rattle.no_read_blocks.specs.Blocks.{body}
+use Rattle.no_read_instructions.specs.Instructions.{an_instr}
+use Rattle.no_read_registers.specs.declared.locals.Locals.{Locals}
 use Rattle.no_print.specs.Modules.{blocks_pieces}
 use Rattle.no_print.specs.Pieces.{lined, sign}
 use Rattle.no_reinstr.specs.States.{Like, Follows, IsFine, named_by}

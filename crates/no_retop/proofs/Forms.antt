@@ -2,32 +2,32 @@
 use Rattle.std.proofs.Common.{◌≡◌, ℕ, Bool, true, false, List, [], ◌∷◌, ◌++◌, bytes_eq, Option, Some, None, if◌then◌else◌, ◌⊎◌, inl, inr, refl, sym, ap, subst, ◌∙◌}
 use Rattle.no_ir.specs.declared.function.Role.{Role}
 use Rattle.no_lex.specs.declared.token.Token.{Token}
-use Rattle.no_grammar.specs.Repeated.{IsRepeated}
-use Rattle.no_grammar.specs.Scope.{Meaning}
-use Rattle.no_grammar.specs.Spelled.{spelled}
-use Rattle.no_attrs.specs.declared.marks.Mark.{Mark}
-use Rattle.no_attrs.specs.declared.marks.Mark.TheVariants as mark
-use Rattle.no_globals.specs.Globals.{a_global}
-use Rattle.no_heads.specs.declared.heads.Head.{Head}
-use Rattle.no_locals.specs.declared.locals.Locals.{Locals}
-use Rattle.no_locals.specs.Numbered.{no_locals}
-use Rattle.no_modules.specs.declared.functions.Written.{Written}
-use Rattle.no_modules.specs.declared.groups.Settings.{Settings}
-use Rattle.no_modules.specs.declared.tops.Top.{Top}
-use Rattle.no_modules.specs.declared.tops.Top.TheVariants as top
-use Rattle.no_modules.specs.declared.tops.TopWord.{TopWord}
-use Rattle.no_modules.specs.declared.tops.TopWord.TheVariants as begins
-use Rattle.no_modules.specs.Functions.{head_body, a_function}
-use Rattle.no_modules.specs.Grouping.{nothing_set, set_by, set_by_all, found_in, all_grouped, no_groups}
-use Rattle.no_modules.specs.Modules.{with_marks, layout_or}
-use Rattle.no_modules.specs.Tops.{source_top, layout_top, target_top, function_top, declared, declared_top, group_top, global_top, node_top, after_word, worded, a_top, more_tops}
-use Rattle.no_modules.specs.WrittenOut.{marks_named, written_out}
-use Rattle.no_modules.proofs.WrittenLaws.{written_out_is}
+use Rattle.no_read_rules.specs.Repeated.{IsRepeated}
+use Rattle.no_read_rules.specs.Scope.{Meaning}
+use Rattle.no_read_rules.specs.Spelled.{spelled}
+use Rattle.no_read_attributes.specs.declared.marks.Mark.{Mark}
+use Rattle.no_read_attributes.specs.declared.marks.Mark.TheVariants as mark
+use Rattle.no_read_globals.specs.Globals.{a_global}
+use Rattle.no_read_heads.specs.declared.heads.Head.{Head}
+use Rattle.no_read_registers.specs.declared.locals.Locals.{Locals}
+use Rattle.no_read_registers.specs.Numbered.{no_locals_yet}
+use Rattle.no_read_modules.specs.declared.functions.Written.{Written}
+use Rattle.no_read_modules.specs.declared.groups.Settings.{Settings}
+use Rattle.no_read_modules.specs.declared.tops.Top.{Top}
+use Rattle.no_read_modules.specs.declared.tops.Top.TheVariants as top
+use Rattle.no_read_modules.specs.declared.tops.TopWord.{TopWord}
+use Rattle.no_read_modules.specs.declared.tops.TopWord.TheVariants as begins
+use Rattle.no_read_modules.specs.Functions.{head_body, a_function}
+use Rattle.no_read_modules.specs.Grouping.{nothing_set, set_by, set_by_all, found_in, all_grouped, no_groups}
+use Rattle.no_read_modules.specs.Modules.{with_marks, layout_or}
+use Rattle.no_read_modules.specs.Tops.{source_top, layout_top, target_top, function_top, declared, declared_top, group_top, global_top, node_top, after_word, worded, a_top, more_tops}
+use Rattle.no_read_modules.specs.WrittenOut.{marks_named, written_out}
+use Rattle.no_read_modules.proofs.WrittenLaws.{written_out_is}
 use Rattle.no_reread.specs.Spells.{AreBytes}
 use Rattle.no_reread.proofs.Bytes.{bytes_string, bytes_spelled}
 use Rattle.no_retop.proofs.Heads.{head_marks_may}
 use Rattle.no_retop.proofs.Marks.{MayStand, MaySet, AllSet, all_append, read_may}
-use Rattle.no_tops.specs.Tops.{layout_of, a_target, a_group, a_declaration}
+use Rattle.no_read_tops.specs.Tops.{layout_of, a_target, a_group, a_declaration}
 
 some_is : {A : Type 0} (a b : A) → Some a ≡ Some b → a ≡ b
 some_is a b e = cc
@@ -129,14 +129,14 @@ module _ (m : Meaning) (role : Role) where
         let hb = k.in_front.0 in
         let bd = hb.in_back.in_back in
         let h : hb.first ≡ w.head = (λ i. (sym bd.in_back.1 i).0) ∙ ap (λ (w : Written). w.head) (sym k.in_back.1) in
-        subst (λ (h : Head). AllSet role h.marks) h (head_marks_may m role true no_locals hb.between hb.front hb.first hb.in_front)
+        subst (λ (h : Head). AllSet role h.marks) h (head_marks_may m role true no_locals_yet hb.between hb.front hb.first hb.in_front)
 
     word_read : (w : TopWord) (s t : Bool) (tokens : List Token) (x : Top) → (after_word m role w).means s tokens x t → FormRead x
     unfolding source_top target_top function_top declared_top group_top
     word_read begins.Source s t tokens x k = subst FormRead (sym k.in_back.1) tt
     word_read begins.Target s t tokens x k = subst FormRead (sym k.in_back.1) (target_read s k.between k.front k.first k.in_front)
     word_read begins.Define s t tokens x k = subst FormRead (sym k.in_back.1) (inl (k.front, k.in_front.0), function_marks k.front k.first k.in_front.0)
-    word_read begins.Declare s t tokens x k = subst FormRead (sym k.in_back.1) (inr (k.front, k.first, k.in_front.0, refl), head_marks_may m role false no_locals k.first.1 k.front k.first.0 k.in_front.0.0)
+    word_read begins.Declare s t tokens x k = subst FormRead (sym k.in_back.1) (inr (k.front, k.first, k.in_front.0, refl), head_marks_may m role false no_locals_yet k.first.1 k.front k.first.0 k.in_front.0.0)
     word_read begins.Attributes s t tokens x k = subst FormRead (sym k.in_back.1) (group_read k.front k.first k.in_front.0)
 
     top_read : (s t : Bool) (tokens : List Token) (x : Top) → (a_top m role).means s tokens x t → FormRead x

@@ -5,24 +5,24 @@ use Rattle.no_ir.specs.declared.function.Function.{Function}
 use Rattle.no_ir.specs.declared.function.Role.{Role}
 use Rattle.no_ir.specs.declared.instruction.Instr.{Instr}
 use Rattle.no_lex.specs.declared.token.Token.{Token}
-use Rattle.no_grammar.specs.Rules.{Rule, done, ◌>>=◌}
-use Rattle.no_grammar.specs.Scope.{Meaning}
-use Rattle.no_grammar.specs.Types.{a_type}
-use Rattle.no_attrs.specs.declared.marks.Mark.{Mark}
-use Rattle.no_blocks.specs.declared.blocks.Piece.TheVariants as piece
-use Rattle.no_blocks.specs.declared.blocks.Piece as blocks
-use Rattle.no_blocks.specs.Blocks.{blocks_of, body}
-use Rattle.no_heads.specs.declared.heads.Head.{Head}
-use Rattle.no_heads.specs.Heads.{a_head}
-use Rattle.no_instr.specs.Instructions.{an_instr}
-use Rattle.no_locals.specs.declared.locals.Locals.{Locals}
-use Rattle.no_locals.specs.Numbered.{no_locals}
-use Rattle.no_modules.specs.declared.functions.Written.{Written}
-use Rattle.no_modules.specs.declared.groups.Settings.{Settings}
-use Rattle.no_modules.specs.Functions.{head_body, written, a_function}
-use Rattle.no_modules.specs.Grouping.{nothing_set}
-use Rattle.no_modules.specs.Modules.{set_function, with_marks, function_of}
-use Rattle.no_modules.specs.Tops.{declared}
+use Rattle.no_read_rules.specs.Rules.{Rule, done, ◌>>=◌}
+use Rattle.no_read_rules.specs.Scope.{Meaning}
+use Rattle.no_read_rules.specs.Types.{a_type}
+use Rattle.no_read_attributes.specs.declared.marks.Mark.{Mark}
+use Rattle.no_read_blocks.specs.declared.blocks.Piece.TheVariants as piece
+use Rattle.no_read_blocks.specs.declared.blocks.Piece as blocks
+use Rattle.no_read_blocks.specs.Blocks.{blocks_of, body}
+use Rattle.no_read_heads.specs.declared.heads.Head.{Head}
+use Rattle.no_read_heads.specs.Heads.{a_head}
+use Rattle.no_read_instructions.specs.Instructions.{an_instr}
+use Rattle.no_read_registers.specs.declared.locals.Locals.{Locals}
+use Rattle.no_read_registers.specs.Numbered.{no_locals_yet}
+use Rattle.no_read_modules.specs.declared.functions.Written.{Written}
+use Rattle.no_read_modules.specs.declared.groups.Settings.{Settings}
+use Rattle.no_read_modules.specs.Functions.{head_body, written, a_function}
+use Rattle.no_read_modules.specs.Grouping.{nothing_set}
+use Rattle.no_read_modules.specs.Modules.{set_function, with_marks, function_of}
+use Rattle.no_read_modules.specs.Tops.{declared}
 use Rattle.no_print.specs.Constants.{Spelled, type_at}
 use Rattle.no_print.specs.Modules.{bound_pieces, address_pieces, type_alone, param_pieces, blocks_pieces, locals_of}
 use Rattle.no_print.specs.Names.{global_name}
@@ -36,7 +36,7 @@ use Rattle.no_retop.proofs.Heads.{rest_of, again_head, head_again}
 use Rattle.no_retop.proofs.Marks.{MayStand, bound_marks, address_marks}
 use Rattle.no_retop.proofs.Params.{declared_again, defined_again}
 use Rattle.no_retop.proofs.Steps.{Twice, sign_then}
-use Rattle.no_tops.specs.Tops.{inside, a_declaration}
+use Rattle.no_read_tops.specs.Tops.{inside, a_declaration}
 
 -- ---- what printed attributes set
 
@@ -75,7 +75,7 @@ pub record FunctionAgain (text : List ℕ) (p : Rule (Unit {0}) Written) (pieces
   pub is : (groups : List ℕ → Settings) → function_of text groups again ≡ f
   pub spells : Spells text p tt pieces again tt
 
-like_none : Alike no_locals no_locals
+like_none : Alike no_locals_yet no_locals_yet
 like_none = record { like = record { registers = refl; labels = refl }; fine = record { registers = tt; labels = tt; counter = (omega arith, tt) } }
 
 module _ (m : Meaning) (text : List ℕ) (role : Role) (bytes : AreBytes m.text) (typed : (gap : List ℕ) → Twice text (a_type m 64) (a_type (over m text) 64) (type_at (spelled_by m) gap)) where
@@ -90,7 +90,7 @@ module _ (m : Meaning) (text : List ℕ) (role : Role) (bytes : AreBytes m.text)
   pub declaration_again : (tokens : List Token) (d : Head × Locals) → (a_declaration m role).means tt tokens d tt → (st : Settings) → MayStand role st.address
       → FunctionAgain text (a_declaration (over m text) role >>= λ x. done (declared x)) (alone_rest (set_function st (declared d))) (set_function st (declared d))
   declaration_again tokens d k st may =
-      let x = head_again m text sp role bytes typed false (λ s z. s ≡ z) (λ t. Unit {0}) (type_alone sp) (declared_again m text sp typed) no_locals no_locals d.1 tokens d.0 refl k.0 tt st.bound st.address may in
+      let x = head_again m text sp role bytes typed false (λ s z. s ≡ z) (λ t. Unit {0}) (type_alone sp) (declared_again m text sp typed) no_locals_yet no_locals_yet d.1 tokens d.0 refl k.0 tt st.bound st.address may in
       let head : Head = again_head d.0 st.bound st.address in
       record {
         again = declared (head, x.state);
@@ -110,23 +110,23 @@ module _ (m : Meaning) (text : List ℕ) (role : Role) (bytes : AreBytes m.text)
         (type_at sp spaced f.result ++ (global_name spaced f.name ++ (sign glued (codes "(") ++ (with_commas (param_pieces sp f.registers) glued f.params ++ (sign glued (codes ")") ++ (bound_pieces f.bound ++ address_pieces f.device_address))))))
         ++ body_rest f
 
-    function_spells : (head : Head) (bs : List Block) (u v : Locals) (front back : List Piece) → Spells text (a_head (over m text) role true) no_locals front head u
+    function_spells : (head : Head) (bs : List Block) (u v : Locals) (front back : List Piece) → Spells text (a_head (over m text) role true) no_locals_yet front head u
         → Spells text (body text (an_instr (over m text) role)) u back bs v
         → Spells text (a_function (over m text) role) tt (front ++ (sign spaced (codes "{") ++ back)) (record { head = head; blocks = bs; names = v }) tt
     unfolding a_function head_body
     function_spells head bs u v front back x y =
-        made_spells text (inside no_locals (head_body (over m text) role)) written tt tt (front ++ (sign spaced (codes "{") ++ back)) ((head, bs), v) (λ others stand. (
-          then_spells text (a_head (over m text) role true) _ no_locals u v front (sign spaced (codes "{") ++ back) head (head, bs) x
+        made_spells text (inside no_locals_yet (head_body (over m text) role)) written tt tt (front ++ (sign spaced (codes "{") ++ back)) ((head, bs), v) (λ others stand. (
+          then_spells text (a_head (over m text) role true) _ no_locals_yet u v front (sign spaced (codes "{") ++ back) head (head, bs) x
               (sign_then text spaced (codes "{") _ u v back (head, bs) refl
               (made_spells text (body text (an_instr (over m text) role)) (λ blocks. (head, blocks)) u v back bs y)) others stand,
           refl,
         ))
 
-    built : (h : Head) (s t : Locals) (front back : List Token) (bs : List Block) → (a_head m role true).means no_locals front h s → (body m.text (an_instr m role)).means s back bs t → (st : Settings) → MayStand role st.address
+    built : (h : Head) (s t : Locals) (front back : List Token) (bs : List Block) → (a_head m role true).means no_locals_yet front h s → (body m.text (an_instr m role)).means s back bs t → (st : Settings) → MayStand role st.address
         → FunctionAgain text (a_function (over m text) role) (named_rest (set_function st (record { head = h; blocks = bs; names = t }))) (set_function st (record { head = h; blocks = bs; names = t }))
     built h s t front back bs k l st may =
         let r = back_again s t back bs l in
-        let x = head_again m text sp role bytes typed true Alike (λ s. Follows s t) (param_pieces sp t.registers) (defined_again m text sp typed bytes t) no_locals no_locals s front h like_none k (r.holds (follows_self t)) st.bound st.address may in
+        let x = head_again m text sp role bytes typed true Alike (λ s. Follows s t) (param_pieces sp t.registers) (defined_again m text sp typed bytes t) no_locals_yet no_locals_yet s front h like_none k (r.holds (follows_self t)) st.bound st.address may in
         let y = r.spells x.like.fine (follows_self t) x.state x.like.like in
         let head : Head = again_head h st.bound st.address in
         record {

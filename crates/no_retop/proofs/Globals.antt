@@ -5,16 +5,16 @@ use Rattle.no_lex.specs.declared.token.TokenKind.TheVariants as kind
 use Rattle.no_ir.specs.declared.constant.Const.{Const}
 use Rattle.no_ir.specs.declared.function.GlobalVar.{GlobalVar}
 use Rattle.no_ir.specs.declared.types.Ty.{Ty}
-use Rattle.no_grammar.specs.declared.fault.Flaw.{Flaw}
-use Rattle.no_grammar.specs.declared.fault.Flaw.TheVariants.{Syntax}
-use Rattle.no_grammar.specs.Rules.{plain}
-use Rattle.no_grammar.specs.Scope.{Meaning}
-use Rattle.no_grammar.specs.Spelled.{kind_number}
-use Rattle.no_grammar.specs.Types.{a_type}
-use Rattle.no_values.specs.Constants.{a_const}
-use Rattle.no_values.specs.Skipped.{behind}
-use Rattle.no_attrs.specs.Words.{is_one}
-use Rattle.no_globals.specs.Globals.{symbol_name, linkage_words, visibility_words, is_idle, constant_of, tails, a_global}
+use Rattle.no_read_rules.specs.declared.fault.Flaw.{Flaw}
+use Rattle.no_read_rules.specs.declared.fault.Flaw.TheVariants.{Syntax}
+use Rattle.no_read_rules.specs.Rules.{plain}
+use Rattle.no_read_rules.specs.Scope.{Meaning}
+use Rattle.no_read_rules.specs.Spelled.{kind_number}
+use Rattle.no_read_rules.specs.Types.{a_type}
+use Rattle.no_read_constants.specs.Constants.{a_const}
+use Rattle.no_read_constants.specs.Skipped.{behind}
+use Rattle.no_read_attributes.specs.Words.{is_one}
+use Rattle.no_read_globals.specs.Globals.{symbol_name, linkage_words, visibility_words, is_idle, constant_of, tails, a_global}
 use Rattle.no_print.specs.Constants.{Spelled, type_at, const_pieces}
 use Rattle.no_print.specs.Instructions.{alignment_pieces}
 use Rattle.no_print.specs.Modules.{kind_word, global_pieces}

@@ -7,15 +7,15 @@ use Rattle.no_ir.specs.declared.types.Ty.TheVariants as ty
 use Rattle.no_lex.specs.declared.token.Token.{Token}
 use Rattle.no_lex.specs.declared.token.TokenKind.{TokenKind}
 use Rattle.no_lex.specs.declared.token.TokenKind.TheVariants as kind
-use Rattle.no_grammar.specs.Rules.{plain, done, ◌>>=◌, lift}
-use Rattle.no_grammar.specs.Scope.{Meaning}
-use Rattle.no_grammar.specs.Spelled.{spelled, kind_number, is_word, only_where, a_word}
-use Rattle.no_grammar.specs.Types.{a_type}
-use Rattle.no_attrs.specs.Attributes.{begins_by, begins_attribute, attribute_marks}
-use Rattle.no_globals.specs.Globals.{symbol_name}
-use Rattle.no_heads.specs.declared.heads.Head.{Head}
-use Rattle.no_heads.specs.Heads.{params, result_type, words_type, head_marks, a_head}
-use Rattle.no_locals.specs.declared.locals.Locals.{Locals}
+use Rattle.no_read_rules.specs.Rules.{plain, done, ◌>>=◌, lift}
+use Rattle.no_read_rules.specs.Scope.{Meaning}
+use Rattle.no_read_rules.specs.Spelled.{spelled, kind_number, is_word, only_where, a_word}
+use Rattle.no_read_rules.specs.Types.{a_type}
+use Rattle.no_read_attributes.specs.Attributes.{begins_by, begins_attribute, attribute_marks}
+use Rattle.no_read_globals.specs.Globals.{symbol_name}
+use Rattle.no_read_heads.specs.declared.heads.Head.{Head}
+use Rattle.no_read_heads.specs.Heads.{params, result_type, words_type, head_marks, a_head}
+use Rattle.no_read_registers.specs.declared.locals.Locals.{Locals}
 use Rattle.no_print.specs.Constants.{Spelled, type_at}
 use Rattle.no_print.specs.Modules.{bound_pieces, address_pieces}
 use Rattle.no_print.specs.Names.{global_name}

@@ -5,16 +5,16 @@ use Rattle.no_lex.specs.declared.token.TokenKind.{TokenKind}
 use Rattle.no_lex.specs.declared.token.TokenKind.TheVariants as kind
 use Rattle.no_ir.specs.declared.function.Role.{Role}
 use Rattle.no_ir.specs.declared.function.Role.TheVariants.{Source, Part}
-use Rattle.no_grammar.specs.declared.fault.Flaw.TheVariants.{Syntax}
-use Rattle.no_grammar.specs.Rules.{keeping}
-use Rattle.no_grammar.specs.Spelled.{spelled, kind_number}
-use Rattle.no_grammar.specs.Unescaped.{unescaped, inner}
-use Rattle.no_attrs.specs.declared.attribute.Attribute.{Attribute}
-use Rattle.no_attrs.specs.declared.attribute.Attribute.TheVariants as attribute
-use Rattle.no_attrs.specs.declared.attribute.AttributeHead.TheVariants as head
-use Rattle.no_attrs.specs.declared.marks.Mark.{Mark}
-use Rattle.no_attrs.specs.declared.marks.Mark.TheVariants as mark
-use Rattle.no_attrs.specs.Attributes.{begins_by, begins_attribute, head_by, attribute_head, value_tail, an_attribute, more_attribute, all_attributes, says, at_address, address_of, address_mark, pair_mark, mark_of, listed, all_marks, attribute_marks}
+use Rattle.no_read_rules.specs.declared.fault.Flaw.TheVariants.{Syntax}
+use Rattle.no_read_rules.specs.Rules.{keeping}
+use Rattle.no_read_rules.specs.Spelled.{spelled, kind_number}
+use Rattle.no_read_rules.specs.Unescaped.{unescaped, inner}
+use Rattle.no_read_attributes.specs.declared.attribute.Attribute.{Attribute}
+use Rattle.no_read_attributes.specs.declared.attribute.Attribute.TheVariants as attribute
+use Rattle.no_read_attributes.specs.declared.attribute.AttributeHead.TheVariants as head
+use Rattle.no_read_attributes.specs.declared.marks.Mark.{Mark}
+use Rattle.no_read_attributes.specs.declared.marks.Mark.TheVariants as mark
+use Rattle.no_read_attributes.specs.Attributes.{begins_by, begins_attribute, head_by, attribute_head, value_tail, an_attribute, more_attribute, all_attributes, says, at_address, address_of, address_mark, pair_mark, mark_of, listed, all_marks, attribute_marks}
 use Rattle.no_print.specs.Modules.{bound_pieces, address_pieces}
 use Rattle.no_print.specs.Names.{quoted}
 use Rattle.no_print.specs.Pieces.{glued, spaced}

@@ -8,21 +8,21 @@ use Rattle.no_ir.specs.declared.function.Role.{Role}
 use Rattle.no_ir.specs.declared.types.Ty.{Ty}
 use Rattle.no_lex.specs.declared.token.Token.{Token}
 use Rattle.no_lex.specs.declared.token.TokenKind.TheVariants as kind
-use Rattle.no_grammar.specs.Rules.{done, ◌>>=◌, lift, if_next}
-use Rattle.no_grammar.specs.Scope.{Meaning}
-use Rattle.no_grammar.specs.Spelled.{is_kind}
-use Rattle.no_grammar.specs.Types.{a_type}
-use Rattle.no_values.specs.Constants.{a_const}
-use Rattle.no_globals.specs.Globals.{a_global}
-use Rattle.no_modules.specs.declared.functions.Written.{Written}
-use Rattle.no_modules.specs.declared.groups.Settings.{Settings}
-use Rattle.no_modules.specs.declared.tops.Top.{Top}
-use Rattle.no_modules.specs.declared.tops.Top.TheVariants as top
-use Rattle.no_modules.specs.declared.tops.TopWord.TheVariants as begins
-use Rattle.no_modules.specs.Functions.{a_function}
-use Rattle.no_modules.specs.Grouping.{nothing_set, found_in, all_grouped, no_groups}
-use Rattle.no_modules.specs.Modules.{set_function, with_marks, function_of, functions_in, globals_in, layout_or, module_of, IsModuleOf}
-use Rattle.no_modules.specs.Tops.{begins_top, function_top, declared, declared_top, global_top, node_top, worded, a_top, more_tops, tops}
+use Rattle.no_read_rules.specs.Rules.{done, ◌>>=◌, lift, if_next}
+use Rattle.no_read_rules.specs.Scope.{Meaning}
+use Rattle.no_read_rules.specs.Spelled.{is_kind}
+use Rattle.no_read_rules.specs.Types.{a_type}
+use Rattle.no_read_constants.specs.Constants.{a_const}
+use Rattle.no_read_globals.specs.Globals.{a_global}
+use Rattle.no_read_modules.specs.declared.functions.Written.{Written}
+use Rattle.no_read_modules.specs.declared.groups.Settings.{Settings}
+use Rattle.no_read_modules.specs.declared.tops.Top.{Top}
+use Rattle.no_read_modules.specs.declared.tops.Top.TheVariants as top
+use Rattle.no_read_modules.specs.declared.tops.TopWord.TheVariants as begins
+use Rattle.no_read_modules.specs.Functions.{a_function}
+use Rattle.no_read_modules.specs.Grouping.{nothing_set, found_in, all_grouped, no_groups}
+use Rattle.no_read_modules.specs.Modules.{set_function, with_marks, function_of, functions_in, globals_in, layout_or, module_of, IsModuleOf}
+use Rattle.no_read_modules.specs.Tops.{begins_top, function_top, declared, declared_top, global_top, node_top, worded, a_top, more_tops, tops}
 use Rattle.no_print.specs.Constants.{Spelled, type_at, const_pieces}
 use Rattle.no_print.specs.Instructions.{alignment_pieces}
 use Rattle.no_print.specs.Modules.{layout_pieces, kind_word, global_pieces, attributes, type_alone, param_pieces, blocks_pieces, locals_of, declared_pieces, defined_pieces, function_by, function_pieces, has_inserted, node_pieces, each}
@@ -44,7 +44,7 @@ use Rattle.no_retop.proofs.Globals.{global_again}
 use Rattle.no_retop.proofs.Marks.{MayStand, AllSet}
 use Rattle.no_retop.proofs.Steps.{Twice}
 use Rattle.no_retop.proofs.Tops.{Tops, word_tops, global_tops, meta_tops, kind_begins, worded_spells, layout_spells, layout_tops, node_top_spells}
-use Rattle.no_tops.specs.Tops.{a_declaration}
+use Rattle.no_read_tops.specs.Tops.{a_declaration}
 
 -- ---- pieces, bracketed another way
 

@@ -3,15 +3,15 @@ use Rattle.std.proofs.Common.{◌≡◌, ℕ, Bool, true, false, List, [], ◌�
 use Rattle.no_ir.specs.declared.types.Ty.{Ty}
 use Rattle.no_lex.specs.declared.token.Token.{Token}
 use Rattle.no_lex.specs.declared.token.TokenKind.TheVariants as kind
-use Rattle.no_grammar.specs.Lists.{items}
-use Rattle.no_grammar.specs.Rules.{lift, maybe}
-use Rattle.no_grammar.specs.Scope.{Meaning}
-use Rattle.no_grammar.specs.Spelled.{is_kind, is_sign, only_where}
-use Rattle.no_grammar.specs.Types.{a_type}
-use Rattle.no_attrs.specs.Attributes.{skip_attributes}
-use Rattle.no_heads.specs.Heads.{any_name, or_no_name, own_name, place_name, param_name, a_param, params}
-use Rattle.no_locals.specs.declared.locals.Locals.{Locals}
-use Rattle.no_locals.specs.Numbered.{register_unnamed, a_definition, no_name}
+use Rattle.no_read_rules.specs.Lists.{items}
+use Rattle.no_read_rules.specs.Rules.{lift, maybe}
+use Rattle.no_read_rules.specs.Scope.{Meaning}
+use Rattle.no_read_rules.specs.Spelled.{is_kind, is_sign, only_where}
+use Rattle.no_read_rules.specs.Types.{a_type}
+use Rattle.no_read_attributes.specs.Attributes.{skip_attributes}
+use Rattle.no_read_heads.specs.Heads.{any_name, or_no_name, own_name, place_name, param_name, a_param, params}
+use Rattle.no_read_registers.specs.declared.locals.Locals.{Locals}
+use Rattle.no_read_registers.specs.Numbered.{register_unnamed, a_definition, no_name}
 use Rattle.no_print.specs.Constants.{Spelled, type_at}
 use Rattle.no_print.specs.Modules.{type_alone, param_pieces}
 use Rattle.no_print.specs.Names.{name_at, spelling, local_name}

@@ -3,12 +3,12 @@ use Rattle.std.proofs.Common.{◌≡◌, ℕ, Bool, true, false, List, ◌∷◌
 use Rattle.no_lex.specs.declared.token.Token.{Token}
 use Rattle.no_lex.specs.declared.token.TokenKind.{TokenKind}
 use Rattle.no_lex.specs.declared.token.TokenKind.TheVariants as kind
-use Rattle.no_grammar.specs.declared.fault.Flaw.{Flaw}
-use Rattle.no_grammar.specs.declared.fault.Flaw.TheVariants.{Syntax}
-use Rattle.no_grammar.specs.Rules.{Rule, plain, ◌>>=◌}
-use Rattle.no_grammar.specs.Spelled.{spelled, kind_number, is_kind, a_word, a_sign}
-use Rattle.no_grammar.specs.Unescaped.{name_of}
-use Rattle.no_globals.specs.Globals.{symbol_name}
+use Rattle.no_read_rules.specs.declared.fault.Flaw.{Flaw}
+use Rattle.no_read_rules.specs.declared.fault.Flaw.TheVariants.{Syntax}
+use Rattle.no_read_rules.specs.Rules.{Rule, plain, ◌>>=◌}
+use Rattle.no_read_rules.specs.Spelled.{spelled, kind_number, is_kind, a_word, a_sign}
+use Rattle.no_read_rules.specs.Unescaped.{name_of}
+use Rattle.no_read_globals.specs.Globals.{symbol_name}
 use Rattle.no_print.specs.Names.{spelling, global_name}
 use Rattle.no_print.specs.Pieces.{Piece, word, sign}
 use Rattle.no_print.specs.Stand.{IsPiece}

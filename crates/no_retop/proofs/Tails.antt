@@ -3,17 +3,17 @@ use Rattle.std.proofs.Common.{◌≡◌, ℕ, ◌≤◌, Bool, true, false, not,
 use Rattle.no_lex.specs.declared.token.Token.{Token}
 use Rattle.no_lex.specs.declared.token.TokenKind.{TokenKind}
 use Rattle.no_lex.specs.declared.token.TokenKind.TheVariants as kind
-use Rattle.no_grammar.specs.declared.fault.Flaw.{Flaw}
-use Rattle.no_grammar.specs.declared.fault.Flaw.TheVariants.{Syntax, Number}
-use Rattle.no_grammar.specs.Numbers as numbers
-use Rattle.no_grammar.specs.Repeated.{IsRepeated, repeat}
-use Rattle.no_grammar.specs.Rules.{plain, done, ◌>>=◌}
-use Rattle.no_grammar.specs.Spelled.{spelled, kind_number, is_kind}
-use Rattle.no_attrs.specs.Attributes.{is_alignment, aligned, alignment_of}
-use Rattle.no_attrs.specs.Words.{is_node}
-use Rattle.no_globals.specs.declared.globals.TailHead.{TailHead}
-use Rattle.no_globals.specs.declared.globals.TailHead.TheVariants.{Align, Section, Attachment}
-use Rattle.no_globals.specs.Globals.{tail_head, after_tail_head, a_tail, is_comma, more_tail, last_of, tails}
+use Rattle.no_read_rules.specs.declared.fault.Flaw.{Flaw}
+use Rattle.no_read_rules.specs.declared.fault.Flaw.TheVariants.{Syntax, Number}
+use Rattle.no_read_rules.specs.Numbers as numbers
+use Rattle.no_read_rules.specs.Repeated.{IsRepeated, repeat}
+use Rattle.no_read_rules.specs.Rules.{plain, done, ◌>>=◌}
+use Rattle.no_read_rules.specs.Spelled.{spelled, kind_number, is_kind}
+use Rattle.no_read_attributes.specs.Attributes.{is_alignment, aligned, alignment_of}
+use Rattle.no_read_attributes.specs.Words.{is_node}
+use Rattle.no_read_globals.specs.declared.globals.TailHead.{TailHead}
+use Rattle.no_read_globals.specs.declared.globals.TailHead.TheVariants.{Align, Section, Attachment}
+use Rattle.no_read_globals.specs.Globals.{tail_head, after_tail_head, a_tail, is_comma, more_tail, last_of, tails}
 use Rattle.no_print.specs.Instructions.{alignment_pieces}
 use Rattle.no_print.specs.Pieces.{glued, spaced, word, integer}
 use Rattle.no_reread.specs.Spells.{Spells}

@@ -3,20 +3,20 @@ use Rattle.std.proofs.Common.{◌≡◌, ℕ, Bool, true, false, not, ◌&&◌, 
 use Rattle.no_ir.specs.declared.function.Role.{Role}
 use Rattle.no_lex.specs.declared.token.TokenKind.{TokenKind}
 use Rattle.no_lex.specs.declared.token.TokenKind.TheVariants as kind
-use Rattle.no_grammar.specs.declared.fault.Flaw.{Flaw}
-use Rattle.no_grammar.specs.declared.fault.Flaw.TheVariants.{Syntax}
-use Rattle.no_grammar.specs.Rules.{keeping, plain, done, ◌>>=◌, lift, if_next, maybe}
-use Rattle.no_grammar.specs.Scope.{Meaning}
-use Rattle.no_grammar.specs.Spelled.{kind_number, is_kind, is_sign, a_word}
-use Rattle.no_grammar.specs.Unescaped.{unescaped, inner}
-use Rattle.no_attrs.specs.Brackets.{closes, to_close, bracketed}
-use Rattle.no_attrs.specs.Words.{is_node}
-use Rattle.no_globals.specs.Globals.{metadata_of}
-use Rattle.no_modules.specs.declared.tops.Top.{Top}
-use Rattle.no_modules.specs.declared.tops.Top.TheVariants as top
-use Rattle.no_modules.specs.declared.tops.TopWord.{TopWord}
-use Rattle.no_modules.specs.declared.tops.TopWord.TheVariants as begins
-use Rattle.no_modules.specs.Tops.{word_of, or_syntax, top_word, is_top_word, begins_top, layout_top, target_top, global_top, node_top, after_word, worded, a_top}
+use Rattle.no_read_rules.specs.declared.fault.Flaw.{Flaw}
+use Rattle.no_read_rules.specs.declared.fault.Flaw.TheVariants.{Syntax}
+use Rattle.no_read_rules.specs.Rules.{keeping, plain, done, ◌>>=◌, lift, if_next, maybe}
+use Rattle.no_read_rules.specs.Scope.{Meaning}
+use Rattle.no_read_rules.specs.Spelled.{kind_number, is_kind, is_sign, a_word}
+use Rattle.no_read_rules.specs.Unescaped.{unescaped, inner}
+use Rattle.no_read_attributes.specs.Brackets.{closes, to_close, bracketed}
+use Rattle.no_read_attributes.specs.Words.{is_node}
+use Rattle.no_read_globals.specs.Globals.{metadata_of}
+use Rattle.no_read_modules.specs.declared.tops.Top.{Top}
+use Rattle.no_read_modules.specs.declared.tops.Top.TheVariants as top
+use Rattle.no_read_modules.specs.declared.tops.TopWord.{TopWord}
+use Rattle.no_read_modules.specs.declared.tops.TopWord.TheVariants as begins
+use Rattle.no_read_modules.specs.Tops.{word_of, or_syntax, top_word, is_top_word, begins_top, layout_top, target_top, global_top, node_top, after_word, worded, a_top}
 use Rattle.no_print.specs.Modules.{layout_pieces, node_pieces}
 use Rattle.no_print.specs.Names.{string}
 use Rattle.no_print.specs.Pieces.{Piece, glued, spaced, lined, piece, word, sign}
@@ -27,7 +27,7 @@ use Rattle.no_reread.proofs.Names.{string_again}
 use Rattle.no_reread.proofs.Standing.{Heads, Tests, begins_none, stand_one}
 use Rattle.no_reread.proofs.Standing as standing
 use Rattle.no_retop.proofs.Steps.{tested, sign_then}
-use Rattle.no_tops.specs.Tops.{layout_of, a_target, bare_of, is_distinct, a_node}
+use Rattle.no_read_tops.specs.Tops.{layout_of, a_target, bare_of, is_distinct, a_node}
 
 module _ (text : List ℕ) where
   -- ---- the layout

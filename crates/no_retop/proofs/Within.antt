@@ -1,10 +1,10 @@
 -- Items that were read are spelled again, where what holds behind the last of them holds before.
 use Rattle.std.proofs.Common.{ℕ, false, List, [], ◌∷◌, ◌++◌, refl, sym, subst}
 use Rattle.no_lex.specs.declared.token.Token.{Token}
-use Rattle.no_grammar.specs.Rules.{Rule}
-use Rattle.no_grammar.specs.Repeated.{IsRepeated}
-use Rattle.no_grammar.specs.Spelled.{is_sign}
-use Rattle.no_grammar.specs.Lists.{more_item, items}
+use Rattle.no_read_rules.specs.Rules.{Rule}
+use Rattle.no_read_rules.specs.Repeated.{IsRepeated}
+use Rattle.no_read_rules.specs.Spelled.{is_sign}
+use Rattle.no_read_rules.specs.Lists.{more_item, items}
 use Rattle.no_print.specs.Pieces.{Piece, sign, spaced, with_commas}
 use Rattle.no_reread.specs.Spells.{Spells}
 use Rattle.no_reread.proofs.Items.{ended_keeps, more_reads, ItemsAre, items_are}

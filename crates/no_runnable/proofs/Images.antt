@@ -18,11 +18,11 @@ use Rattle.no_module.specs.Scalars.{each_meets, is_of, scalar_of, scalar_step}
 use Rattle.no_module.specs.Widths.{is_width}
 use Rattle.no_module.specs.declared.scalar.Scalar.{Scalar}
 use Rattle.no_module.specs.declared.scalar.Scalar.TheVariants as scalar
-use Rattle.no_typing.specs.Addresses.{place_fits}
-use Rattle.no_typing.specs.Constants as typing
-use Rattle.no_kinds.specs.Large.{base_fits}
-use Rattle.no_kinds.specs.Parts as parts
-use Rattle.no_kinds.specs.Unknown.{place_known}
+use Rattle.no_verify_types.specs.Addresses.{place_fits}
+use Rattle.no_verify_types.specs.Constants as typing
+use Rattle.no_verify_structure.specs.Large.{base_fits}
+use Rattle.no_verify_structure.specs.Parts as parts
+use Rattle.no_verify_structure.specs.Unknown.{place_known}
 use Rattle.no_image.specs.Fits as image
 use Rattle.no_runnable.proofs.Places.{typed_place}
 

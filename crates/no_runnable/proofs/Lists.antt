@@ -5,9 +5,9 @@ use Rattle.std.proofs.lemmas.Bool.{and_parts, and_from}
 use Rattle.no_ir.specs.declared.function.Block.{Block}
 use Rattle.no_ir.specs.declared.function.Function.{Function}
 use Rattle.no_ir.specs.declared.instruction.Instr.{Instr}
-use Rattle.no_typing.specs.declared.place.FaultPlace.{FaultPlace}
-use Rattle.no_typing.specs.Places.{found_or, first_found, placed, wrong_in, wrong_among}
-use Rattle.no_kinds.specs.Finding.{block_break, first_at, first_break, first_instr, first_place, unless, unless_whole}
+use Rattle.no_verify_types.specs.declared.place.FaultPlace.{FaultPlace}
+use Rattle.no_verify_types.specs.Places.{found_or, first_found, placed, wrong_in, wrong_among}
+use Rattle.no_verify_structure.specs.Finding.{block_break, first_at, first_break, first_instr, first_place, unless, unless_whole}
 
 abbrev pub Each : {A : Type 0} → (A → Type 0) → List A → Type 0
 Each P [] = Unit {0}

@@ -15,16 +15,16 @@ use Rattle.no_layout.specs.declared.layout.Layout.{Layout}
 use Rattle.no_room.specs.Accepted.{Accepted}
 use Rattle.no_room.specs.Fits.{have_room, type_fits}
 use Rattle.no_module.specs.Formed.{alignment_formed, block_formed, constant_formed, counts_of, function_formed, global_formed, instr_formed, label_formed, op_formed, param_formed, register_formed, result_formed, type_formed, within}
-use Rattle.no_typing.specs.Constants.{global_typed}
-use Rattle.no_typing.specs.Places.{first_found, function_fault, placed, typed}
-use Rattle.no_typing.specs.Registers.{register_types}
-use Rattle.no_typing.specs.Typing.{head_typed, op_typed}
-use Rattle.no_typing.specs.declared.place.FaultPlace.{FaultPlace}
-use Rattle.no_kinds.specs.Finding.{first_place}
-use Rattle.no_kinds.specs.Large.{base_fits, function_large, global_fits, head_fits, instr_fits, large_with, named_fit}
-use Rattle.no_kinds.specs.Names.{is_in, labels_defined, registers_of}
-use Rattle.no_kinds.specs.Parts.{constant_keeps, operands_keep, types_of}
-use Rattle.no_kinds.specs.Unknown.{function_unknown, global_known, instr_known, place_known}
+use Rattle.no_verify_types.specs.Constants.{global_typed}
+use Rattle.no_verify_types.specs.Places.{first_found, function_fault, placed, typed}
+use Rattle.no_verify_types.specs.Registers.{register_types}
+use Rattle.no_verify_types.specs.Typing.{head_typed, op_typed}
+use Rattle.no_verify_types.specs.declared.place.FaultPlace.{FaultPlace}
+use Rattle.no_verify_structure.specs.Finding.{first_place}
+use Rattle.no_verify_structure.specs.Large.{base_fits, function_large, global_fits, head_fits, instr_fits, large_with, named_fit}
+use Rattle.no_verify_structure.specs.Names.{is_in, labels_defined, registers_of}
+use Rattle.no_verify_structure.specs.Parts.{constant_keeps, operands_keep, types_of}
+use Rattle.no_verify_structure.specs.Unknown.{function_unknown, global_known, instr_known, place_known}
 use Rattle.no_verify.specs.Verdict.{IsAccepted}
 use Rattle.no_verify.specs.declared.fault.VerifyKind.TheVariants as kind
 use Rattle.no_semantics.specs.Sound as sound

@@ -30,12 +30,12 @@ use Rattle.no_module.specs.Scalars as scalars
 use Rattle.no_module.specs.Widths.{is_width}
 use Rattle.no_module.specs.declared.scalar.Scalar.{Scalar}
 use Rattle.no_module.specs.declared.scalar.Scalar.TheVariants as scalar
-use Rattle.no_typing.specs.Addresses.{constant_field, field_of, indices_lead, inner_lead, part_in, part_of}
-use Rattle.no_typing.specs.Constants.{value_step}
-use Rattle.no_typing.specs.Typing.{argument_fits, bare_function, both_fit, callee_fits, converts, count_fits, direct, field_in, goes_between, integer_fits, named_step, number_of, number_step, op_typed, operand_fits, returns, stated_field}
-use Rattle.no_kinds.specs.Large.{base_fits}
-use Rattle.no_kinds.specs.Parts.{constant_keeps, operand_keeps, operands_of, types_of}
-use Rattle.no_kinds.specs.Unknown.{place_known}
+use Rattle.no_verify_types.specs.Addresses.{constant_field, field_of, indices_lead, inner_lead, part_in, part_of}
+use Rattle.no_verify_types.specs.Constants.{value_step}
+use Rattle.no_verify_types.specs.Typing.{argument_fits, bare_function, both_fit, callee_fits, converts, count_fits, direct, field_in, goes_between, integer_fits, named_step, number_of, number_step, op_typed, operand_fits, returns, stated_field}
+use Rattle.no_verify_structure.specs.Large.{base_fits}
+use Rattle.no_verify_structure.specs.Parts.{constant_keeps, operand_keeps, operands_of, types_of}
+use Rattle.no_verify_structure.specs.Unknown.{place_known}
 use Rattle.no_semantics.specs.Indices as run
 use Rattle.no_semantics.specs.Sound as sound
 use Rattle.no_semantics.specs.Values.{width_of, width_step}

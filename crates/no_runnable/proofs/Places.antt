@@ -18,12 +18,12 @@ use Rattle.no_layout.specs.declared.extent.Extent.{Extent}
 use Rattle.no_layout.specs.declared.layout.Layout.{Layout}
 use Rattle.no_module.specs.Named.{resolved}
 use Rattle.no_module.specs.declared.scalar.Scalar.{Scalar}
-use Rattle.no_typing.specs.Addresses.{constant_field, field_below, field_of, has_address, indices_lead, inner_lead, leads_on, part_in, part_of, place_fits}
-use Rattle.no_typing.specs.Constants.{value_fits, value_step}
-use Rattle.no_kinds.specs.Large.{base_fits}
-use Rattle.no_kinds.specs.Parts.{constant_keeps, operand_keeps}
-use Rattle.no_kinds.specs.Unknown.{place_known, symbol_known}
-use Rattle.no_typing.specs.Typing.{operand_fits}
+use Rattle.no_verify_types.specs.Addresses.{constant_field, field_below, field_of, has_address, indices_lead, inner_lead, leads_on, part_in, part_of, place_fits}
+use Rattle.no_verify_types.specs.Constants.{value_fits, value_step}
+use Rattle.no_verify_structure.specs.Large.{base_fits}
+use Rattle.no_verify_structure.specs.Parts.{constant_keeps, operand_keeps}
+use Rattle.no_verify_structure.specs.Unknown.{place_known, symbol_known}
+use Rattle.no_verify_types.specs.Typing.{operand_fits}
 use Rattle.no_semantics.specs.Indices as run
 use Rattle.no_semantics.specs.Sound as sound
 

@@ -8,7 +8,7 @@ use Rattle.no_ir.specs.declared.function.Module.{Module}
 use Rattle.no_ir.specs.declared.function.Role.TheVariants.{Source}
 use Rattle.no_layout.specs.Memory.{stack_end}
 use Rattle.no_room.specs.Accepted.{Accepted}
-use Rattle.no_typing.specs.Places.{type_fault_of, external_fault_of}
+use Rattle.no_verify_types.specs.Places.{type_fault_of, external_fault_of}
 use Rattle.no_verify.specs.declared.fault.VerifyKind.TheVariants as kind
 use Rattle.no_verify.specs.Verdict.{IsAccepted}
 use Rattle.no_semantics.specs.Calls.{passed, unassigned, entry_frame}

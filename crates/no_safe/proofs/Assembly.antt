@@ -17,23 +17,23 @@ use Rattle.no_ir.specs.declared.function.Function.{Function}
 use Rattle.no_ir.specs.declared.function.Module.{Module}
 use Rattle.no_module.specs.Functions.{is_declared}
 use Rattle.no_module.specs.Scalars.{void_step, is_void}
-use Rattle.no_paths.specs.Paths.{code_of, labels_of, IsAssigned}
+use Rattle.no_verify_paths.specs.Paths.{code_of, labels_of, IsAssigned}
 use Rattle.no_ir.specs.declared.function.Role.TheVariants.{Source}
 use Rattle.no_layout.specs.Sizes.{sizes_of}
 use Rattle.no_module.specs.Formed.{counts_of, within, result_formed, param_formed, instr_formed, block_formed, function_formed, IsFormed}
 use Rattle.no_room.specs.Accepted.{Accepted}
 use Rattle.no_room.specs.Fits.{have_room}
-use Rattle.no_kinds.specs.Ending.{function_ending, ending_of}
-use Rattle.no_kinds.specs.Entry.{int_step, is_i32, main_parameters, is_main, entry_of}
-use Rattle.no_kinds.specs.Finding.{first_at, first_place}
-use Rattle.no_kinds.specs.Phis.{function_phis, phis_of}
-use Rattle.no_kinds.specs.Unknown.{global_known, function_unknown, unknown_of}
+use Rattle.no_verify_structure.specs.Ending.{function_ending, ending_of}
+use Rattle.no_verify_structure.specs.Entry.{int_step, is_i32, main_parameters, is_main, entry_of}
+use Rattle.no_verify_structure.specs.Finding.{first_at, first_place}
+use Rattle.no_verify_structure.specs.Phis.{function_phis, phis_of}
+use Rattle.no_verify_structure.specs.Unknown.{global_known, function_unknown, unknown_of}
 use Rattle.no_verify.specs.declared.fault.VerifyKind.TheVariants as kind
 use Rattle.no_verify.specs.Verdict.{IsAccepted}
 use Rattle.no_semantics.specs.First.{program_of}
 use Rattle.no_semantics.specs.Taken.{is_callable}
-use Rattle.no_kinds.specs.Names.{globals_names, functions_names}
-use Rattle.no_kinds.specs.Twice.{names_before, params_differ, globals_differ, block_twice, function_twice, twice_of}
+use Rattle.no_verify_structure.specs.Names.{globals_names, functions_names}
+use Rattle.no_verify_structure.specs.Twice.{names_before, params_differ, globals_differ, block_twice, function_twice, twice_of}
 use Rattle.no_semantics.specs.Starts.{main_from}
 use Rattle.no_semantics.specs.States.{function_at}
 use Rattle.no_semantics.specs.Values.{Program, width_of}

@@ -9,10 +9,10 @@ use Rattle.no_ir.specs.declared.instruction.Op.TheVariants as op
 use Rattle.no_ir.specs.declared.instruction.Instr.{Instr}
 use Rattle.no_ir.specs.declared.function.Block.{Block}
 use Rattle.no_ir.specs.declared.function.Function.{Function}
-use Rattle.no_paths.specs.Paths.{code_in, code_of}
-use Rattle.no_kinds.specs.Parts.{is_terminator, is_phi as is_phi', pair_labels}
-use Rattle.no_kinds.specs.Ending.{first_terminator, ending_fault, block_ending, function_ending}
-use Rattle.no_kinds.specs.Phis.{same_labels, pairs_agree, op_meets, phi_allowed, predecessors, block_phis, function_phis}
+use Rattle.no_verify_paths.specs.Paths.{code_in, code_of}
+use Rattle.no_verify_structure.specs.Parts.{is_terminator, is_phi as is_phi', pair_labels}
+use Rattle.no_verify_structure.specs.Ending.{first_terminator, ending_fault, block_ending, function_ending}
+use Rattle.no_verify_structure.specs.Phis.{same_labels, pairs_agree, op_meets, phi_allowed, predecessors, block_phis, function_phis}
 use Rattle.no_progress.specs.Proper.{is_phi, is_last}
 use Rattle.no_progress.proofs.Frames.{cases}
 use Rattle.no_safe.proofs.Lists.{and_one, and_two, not_of, not_not, at_none, Broken, break_none, break_some, all_at, taken_at}

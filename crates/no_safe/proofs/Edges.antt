@@ -13,14 +13,14 @@ use Rattle.no_ir.specs.declared.instruction.Instr.{Instr}
 use Rattle.no_ir.specs.declared.function.Block.{Block}
 use Rattle.no_ir.specs.declared.function.Function.{Function}
 use Rattle.no_ir.specs.declared.function.Module.{Module}
-use Rattle.no_paths.specs.Paths.{code_of, first_from, block_of, labels_in, labels_of, exits, successors}
-use Rattle.no_kinds.specs.Ending.{function_ending}
-use Rattle.no_kinds.specs.Finding.{first_at, block_break}
-use Rattle.no_kinds.specs.Names.{is_in, blocks_labels, labels_defined, registers_of}
-use Rattle.no_kinds.specs.Parts.{exits_of, operands_keep, pair_labels, labels_of as named_labels}
-use Rattle.no_kinds.specs.Phis.{exits_in, block_exits, leads_to, predecessors, same_labels, pairs_agree, op_meets, phi_allowed, function_phis}
-use Rattle.no_kinds.specs.Twice.{result_twice, registers_before, block_twice}
-use Rattle.no_kinds.specs.Unknown.{place_known, instr_known, function_unknown}
+use Rattle.no_verify_paths.specs.Paths.{code_of, first_from, block_of, labels_in, labels_of, exits, successors}
+use Rattle.no_verify_structure.specs.Ending.{function_ending}
+use Rattle.no_verify_structure.specs.Finding.{first_at, block_break}
+use Rattle.no_verify_structure.specs.Names.{is_in, blocks_labels, labels_defined, registers_of}
+use Rattle.no_verify_structure.specs.Parts.{exits_of, operands_keep, pair_labels, labels_of as named_labels}
+use Rattle.no_verify_structure.specs.Phis.{exits_in, block_exits, leads_to, predecessors, same_labels, pairs_agree, op_meets, phi_allowed, function_phis}
+use Rattle.no_verify_structure.specs.Twice.{result_twice, registers_before, block_twice}
+use Rattle.no_verify_structure.specs.Unknown.{place_known, instr_known, function_unknown}
 use Rattle.no_semantics.specs.Control.{block_from, taken}
 use Rattle.no_semantics.specs.Values.{Program}
 use Rattle.no_progress.specs.Proper.{PhiFits, FrontFits, EdgeFits, IsTarget, is_last}

@@ -3,9 +3,9 @@ use Rattle.std.proofs.Common.{◌≡◌, ⊎_elim, ℕ, zero, suc, ◌+◌, ◌<
 use Rattle.std.specs.List.{list_all, list_any, filter_map, cons_option}
 use Rattle.std.proofs.lemmas.Bool.{or_parts}
 use Rattle.std.proofs.lemmas.Option.{same_Some, none-some, slice_get-get_or}
-use Rattle.no_typing.specs.declared.place.FaultPlace.{FaultPlace}
-use Rattle.no_typing.specs.Places.{found_or, fault_at, placed}
-use Rattle.no_kinds.specs.Finding.{first_break, first_at, unless, unless_whole}
+use Rattle.no_verify_types.specs.declared.place.FaultPlace.{FaultPlace}
+use Rattle.no_verify_types.specs.Places.{found_or, fault_at, placed}
+use Rattle.no_verify_structure.specs.Finding.{first_break, first_at, unless, unless_whole}
 use Rattle.no_progress.specs.Proper.{Each}
 use Rattle.no_progress.proofs.Frames.{cases, or_left, or_right}
 

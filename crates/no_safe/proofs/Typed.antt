@@ -9,10 +9,10 @@ use Rattle.no_ir.specs.declared.function.Function.{Function}
 use Rattle.no_ir.specs.declared.function.Role.TheVariants.{Source}
 use Rattle.no_module.specs.Functions.{is_declared}
 use Rattle.no_module.specs.Scalars.{is_scalar, scalar_of}
-use Rattle.no_typing.specs.Named.{is_named, module_names}
-use Rattle.no_typing.specs.Registers.{register_types, result_of}
-use Rattle.no_typing.specs.Typing.{op_typed}
-use Rattle.no_paths.specs.Paths.{code_of, labels_of}
+use Rattle.no_verify_types.specs.Named.{is_named, module_names}
+use Rattle.no_verify_types.specs.Registers.{register_types, result_of}
+use Rattle.no_verify_types.specs.Typing.{op_typed}
+use Rattle.no_verify_paths.specs.Paths.{code_of, labels_of}
 use Rattle.no_semantics.specs.Control.{taken}
 use Rattle.no_semantics.specs.States.{function_at}
 use Rattle.no_semantics.specs.Taken.{is_callable}

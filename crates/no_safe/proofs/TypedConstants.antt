@@ -14,10 +14,10 @@ use Rattle.no_ir.specs.declared.function.Role.{Role}
 use Rattle.no_ir.specs.declared.instruction.Operand.{Operand}
 use Rattle.no_ir.specs.declared.instruction.Operand.TheVariants as operand
 use Rattle.no_module.specs.declared.scalar.Scalar.{Scalar}
-use Rattle.no_typing.specs.Constants.{value_fits, value_step}
-use Rattle.no_typing.specs.Named.{constant_names, operand_names, symbol_names}
-use Rattle.no_typing.specs.Named as named
-use Rattle.no_typing.specs.Typing.{bare_function, direct, named_step}
+use Rattle.no_verify_types.specs.Constants.{value_fits, value_step}
+use Rattle.no_verify_types.specs.Named.{constant_names, operand_names, symbol_names}
+use Rattle.no_verify_types.specs.Named as named
+use Rattle.no_verify_types.specs.Typing.{bare_function, direct, named_step}
 use Rattle.no_semantics.specs.Registers.{constant_number}
 use Rattle.no_semantics.specs.Values.{Program, place_address}
 

@@ -10,12 +10,12 @@ use Rattle.no_ir.specs.declared.function.Function.{Function}
 use Rattle.no_module.specs.Formed.{IsFormed, block_formed, counts_of, function_formed, instr_formed, op_formed, param_formed, register_formed, result_formed, within}
 use Rattle.no_module.specs.Functions.{is_declared}
 use Rattle.no_module.specs.Scalars.{is_scalar, is_result, scalar_of}
-use Rattle.no_typing.specs.Places.{external_fault_of, first_found, function_fault, placed, type_fault_of, typed, wrong_among, wrong_in}
-use Rattle.no_typing.specs.Registers.{register_types, result_of, type_at}
-use Rattle.no_typing.specs.Typing.{head_typed, op_typed}
-use Rattle.no_kinds.specs.Finding.{first_at, first_break, first_place}
-use Rattle.no_kinds.specs.Names.{block_registers, is_in, instr_registers, parameters_of, blocks_labels}
-use Rattle.no_kinds.specs.Twice.{block_twice, function_twice, globals_differ, is_new, names_before, parameter_registers, params_differ, registers_before, result_twice, twice_of}
+use Rattle.no_verify_types.specs.Places.{external_fault_of, first_found, function_fault, placed, type_fault_of, typed, wrong_among, wrong_in}
+use Rattle.no_verify_types.specs.Registers.{register_types, result_of, type_at}
+use Rattle.no_verify_types.specs.Typing.{head_typed, op_typed}
+use Rattle.no_verify_structure.specs.Finding.{first_at, first_break, first_place}
+use Rattle.no_verify_structure.specs.Names.{block_registers, is_in, instr_registers, parameters_of, blocks_labels}
+use Rattle.no_verify_structure.specs.Twice.{block_twice, function_twice, globals_differ, is_new, names_before, parameter_registers, params_differ, registers_before, result_twice, twice_of}
 use Rattle.no_ir.specs.Naming.{is_known}
 use Rattle.no_semantics.specs.States.{function_at}
 use Rattle.no_semantics.specs.Values.{Program}

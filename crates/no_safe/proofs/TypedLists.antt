@@ -3,7 +3,7 @@ use Rattle.std.proofs.Common.{◌≡◌, ℕ, zero, suc, ◌+◌, Bool, true, fa
 use Rattle.std.proofs.lemmas.Bool.{and_parts, or_parts, or_right, false≢true}
 use Rattle.std.proofs.lemmas.Option.{none-some, same_Some}
 use Rattle.std.specs.List.{list_all, list_any, position_from}
-use Rattle.no_typing.specs.Places.{found_or, first_found}
+use Rattle.no_verify_types.specs.Places.{found_or, first_found}
 use Rattle.no_progress.specs.Proper.{Each}
 
 -- ---- tests of all elements

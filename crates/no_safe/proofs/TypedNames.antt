@@ -16,9 +16,9 @@ use Rattle.no_ir.specs.declared.function.Role.TheVariants.{Source}
 use Rattle.no_module.specs.declared.external.External.{External}
 use Rattle.no_module.specs.Externals.{external_of, external_typed, is_external}
 use Rattle.no_module.specs.Functions.{is_declared}
-use Rattle.no_typing.specs.Named.{block_names, first_unknown, function_names, global_names, is_named, is_unknown, module_names, op_names, operand_names}
-use Rattle.no_typing.specs.Places.{at_function, external_fault_of}
-use Rattle.no_typing.specs.Typing.{direct}
+use Rattle.no_verify_types.specs.Named.{block_names, first_unknown, function_names, global_names, is_named, is_unknown, module_names, op_names, operand_names}
+use Rattle.no_verify_types.specs.Places.{at_function, external_fault_of}
+use Rattle.no_verify_types.specs.Typing.{direct}
 use Rattle.no_semantics.specs.Taken.{block_taken, callee_taken, function_taken, is_callable, module_taken, op_taken}
 use Rattle.no_safe.proofs.TypedLists.{among_flat, among_left, among_parts, among_right, among_wider, is_there, keeps_second}
 

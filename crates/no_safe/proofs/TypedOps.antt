@@ -15,11 +15,11 @@ use Rattle.no_module.specs.declared.scalar.Scalar.{Scalar}
 use Rattle.no_module.specs.declared.scalar.Scalar.TheVariants as scalar
 use Rattle.no_module.specs.Externals.{declared_external}
 use Rattle.no_module.specs.Scalars.{agree, integer, is_result, is_scalar, same_result, scalar_of}
-use Rattle.no_typing.specs.Addresses.{indices_lead}
-use Rattle.no_typing.specs.Named.{is_named, module_names, op_names, operand_names}
-use Rattle.no_typing.specs.Registers.{register_types, result_of}
-use Rattle.no_typing.specs.Typing.{args_match, argument_fits, both_fit, callee_fits, calls, case_numbers, cases_fit, converts, count_fits, direct, integer_fits, is_passed, numbers_stated, op_typed, operand_fits, returns, stated_field}
-use Rattle.no_paths.specs.Paths.{labels_of}
+use Rattle.no_verify_types.specs.Addresses.{indices_lead}
+use Rattle.no_verify_types.specs.Named.{is_named, module_names, op_names, operand_names}
+use Rattle.no_verify_types.specs.Registers.{register_types, result_of}
+use Rattle.no_verify_types.specs.Typing.{args_match, argument_fits, both_fit, callee_fits, calls, case_numbers, cases_fit, converts, count_fits, direct, integer_fits, is_passed, numbers_stated, op_typed, operand_fits, returns, stated_field}
+use Rattle.no_verify_paths.specs.Paths.{labels_of}
 use Rattle.no_semantics.specs.Calls.{are_passed, has_type}
 use Rattle.no_semantics.specs.Control.{taken}
 use Rattle.no_semantics.specs.States.{function_at}

@@ -9,9 +9,9 @@ use Rattle.no_ir.specs.declared.function.Block.{Block}
 use Rattle.no_ir.specs.declared.function.Function.{Function}
 use Rattle.no_module.specs.declared.scalar.Scalar.{Scalar}
 use Rattle.no_module.specs.Scalars.{scalar_of}
-use Rattle.no_typing.specs.Registers.{result_of, result_defined, instr_defined, block_defined, param_defined, all_defined, first_type, register_types, known_type, type_at}
-use Rattle.no_kinds.specs.Names.{is_in, result_registers, instr_registers, block_registers, parameters_of}
-use Rattle.no_kinds.specs.Twice.{parameter_registers}
+use Rattle.no_verify_types.specs.Registers.{result_of, result_defined, instr_defined, block_defined, param_defined, all_defined, first_type, register_types, known_type, type_at}
+use Rattle.no_verify_structure.specs.Names.{is_in, result_registers, instr_registers, block_registers, parameters_of}
+use Rattle.no_verify_structure.specs.Twice.{parameter_registers}
 use Rattle.no_safe.proofs.TypedLists.{not_among_parts}
 
 -- ---- the first definition of a register

@@ -14,8 +14,8 @@ use Rattle.no_module.specs.declared.scalar.Scalar.{Scalar}
 use Rattle.no_module.specs.declared.scalar.Scalar.TheVariants as scalar
 use Rattle.no_module.specs.Scalars.{agree, integer, is_of, is_pointer, is_result, is_scalar, is_void, same_scalar, scalar_of, scalar_step, void_step}
 use Rattle.no_module.specs.Widths.{is_width}
-use Rattle.no_typing.specs.Registers.{register_types, type_at}
-use Rattle.no_typing.specs.Typing.{converts, goes_between, narrows, operand_fits}
+use Rattle.no_verify_types.specs.Registers.{register_types, type_at}
+use Rattle.no_verify_types.specs.Typing.{converts, goes_between, narrows, operand_fits}
 use Rattle.no_eval.specs.Cast.{GoesBetween}
 use Rattle.no_semantics.specs.Values.{Program, width_of, width_step}
 use Rattle.no_progress.specs.Proper.{Answers, Gives, Idle, Reads, ReadsOf, bits}

@@ -4,7 +4,7 @@ use Rattle.no_ir.specs.declared.function.Function.{Function}
 use Rattle.no_layout.specs.declared.layout.Layout.{Layout}
 use Rattle.no_module.specs.declared.scalar.Scalar.{Scalar}
 use Rattle.no_module.specs.declared.scalar.Scalar.TheVariants as scalar
-use Rattle.no_typing.specs.Registers.{register_types, type_at}
+use Rattle.no_verify_types.specs.Registers.{register_types, type_at}
 
 -- an integer has the bits of its type, and a pointer those of the layout
 abbrev pub width_of_scalar : Layout → Scalar → ℕ

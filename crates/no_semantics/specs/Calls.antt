@@ -11,7 +11,7 @@ use Rattle.no_module.specs.declared.external.External.TheVariants as external
 use Rattle.no_module.specs.Externals.{external_of}
 use Rattle.no_module.specs.Functions.{is_declared}
 use Rattle.no_module.specs.Scalars.{agree, same_result, scalar_of}
-use Rattle.no_typing.specs.Typing.{direct}
+use Rattle.no_verify_types.specs.Typing.{direct}
 use Rattle.no_semantics.specs.Control.{arrived}
 use Rattle.no_semantics.specs.Externals.{World, Effect, Outcome, do_external, is_getchar}
 use Rattle.no_semantics.specs.Externals as outcome

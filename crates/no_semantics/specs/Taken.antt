@@ -10,8 +10,8 @@ use Rattle.no_ir.specs.declared.function.Function.{Function}
 use Rattle.no_ir.specs.declared.function.Module.{Module}
 use Rattle.no_ir.specs.declared.function.Role.{Role}
 use Rattle.no_ir.specs.declared.function.Role.TheVariants.{Source, Part}
-use Rattle.no_typing.specs.Named.{op_names, operand_names, global_names}
-use Rattle.no_typing.specs.Typing.{direct}
+use Rattle.no_verify_types.specs.Named.{op_names, operand_names, global_names}
+use Rattle.no_verify_types.specs.Typing.{direct}
 
 -- a callee that is no bare name of a function
 abbrev pub callee_taken : Operand → List ℕ

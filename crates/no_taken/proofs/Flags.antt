@@ -8,7 +8,7 @@ use Rattle.no_ir.specs.declared.function.Function.{Function}
 use Rattle.no_ir.specs.declared.function.GlobalVar.{GlobalVar}
 use Rattle.no_ir.specs.declared.function.Module.{Module}
 use Rattle.no_semantics.specs.Taken.{function_taken, module_taken}
-use Rattle.no_typing.specs.Named.{global_names}
+use Rattle.no_verify_types.specs.Named.{global_names}
 use Rattle.no_taken.specs.Marked.{AreTaken, marked}
 
 pub marked_append : (a b : List ℕ) (flags : List Bool) → marked (a ++ b) flags ≡ marked b (marked a flags)

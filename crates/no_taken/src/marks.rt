@@ -1,13 +1,13 @@
 ghost use Rattle.std.specs.Prelude.{◌≡◌, ◌++◌, false, replicate, slice_set, true, IfOk, map};
 ghost use Rattle.std.specs.List.{concat, flat_map};
 ghost use Rattle.no_semantics.specs.Taken.{block_taken, callee_taken, function_taken, op_taken};
-ghost use Rattle.no_typing.specs.Named.{constant_names, count_names, global_names, op_names, operand_names, symbol_names, value_names};
+ghost use Rattle.no_verify_types.specs.Named.{constant_names, count_names, global_names, op_names, operand_names, symbol_names, value_names};
 ghost use Rattle.no_taken.specs.Marked.{AreTaken, marked};
 
 use no_ir::{
     Block, Const, Function, GlobalVar, Instr, List, Module, NoMemory, Op, Operand, Symbol, Ty,
 };
-use no_typing::direct;
+use no_verify_types::direct;
 use std::alloc::Global;
 
 /// Sets the flag of a number, if there is one.

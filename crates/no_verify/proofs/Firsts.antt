@@ -2,9 +2,9 @@
 use Rattle.std.proofs.Common.{◌≡◌, ◌<◌, ◌≤◌, ℕ, zero, suc, ◌+◌, List, [], ◌∷◌, length, slice_get, Option, Some, None, refl, sym, ap, subst, ◌∙◌, ◌⊎◌, inl, inr, arith}
 use Rattle.std.proofs.lemmas.Option.{slice_get_within}
 use Rattle.no_ir.specs.declared.function.Function.{Function}
-use Rattle.no_typing.specs.declared.place.FaultPlace.{FaultPlace}
-use Rattle.no_typing.specs.Places.{fault_at}
-use Rattle.no_paths.specs.Paths.{IsAnswer}
+use Rattle.no_verify_types.specs.declared.place.FaultPlace.{FaultPlace}
+use Rattle.no_verify_types.specs.Places.{fault_at}
+use Rattle.no_verify_paths.specs.Paths.{IsAnswer}
 use Rattle.no_verify.specs.declared.fault.VerifyKind.{VerifyKind}
 use Rattle.no_verify.specs.declared.fault.VerifyFault.{VerifyFault}
 use Rattle.no_verify.specs.Kinds.{AreAssigned, IsUnassignedAt, IsUnassignedPlace}

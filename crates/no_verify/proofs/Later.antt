@@ -7,9 +7,9 @@ use Rattle.no_layout.specs.Sizes.{sizes_of}
 use Rattle.no_layout.specs.declared.extent.Extent.{Extent}
 use Rattle.no_layout.specs.declared.layout.Layout.{Layout}
 use Rattle.no_room.specs.Fits.{have_types, type_fits}
-use Rattle.no_typing.specs.declared.place.FaultPlace.{FaultPlace}
-use Rattle.no_kinds.specs.Finding.{unless_whole}
-use Rattle.no_kinds.specs.Large.{global_fits, large_of, large_with, named_fit}
+use Rattle.no_verify_types.specs.declared.place.FaultPlace.{FaultPlace}
+use Rattle.no_verify_structure.specs.Finding.{unless_whole}
+use Rattle.no_verify_structure.specs.Large.{global_fits, large_of, large_with, named_fit}
 
 held : (b : Bool) (more : Option FaultPlace) → unless_whole b more ≡ None → b ≡ true
 held true more h = refl

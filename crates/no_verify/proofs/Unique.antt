@@ -10,11 +10,11 @@ use Rattle.no_layout.specs.Text.{layout_of}
 use Rattle.no_layout.specs.declared.extent.Extent.{Extent}
 use Rattle.no_layout.specs.declared.fault.LayoutFault.{LayoutFault}
 use Rattle.no_layout.specs.declared.layout.Layout.{Layout}
-use Rattle.no_paths.specs.Paths.{IsAnswer}
-use Rattle.no_paths.proofs.Judging.{one_answer}
+use Rattle.no_verify_paths.specs.Paths.{IsAnswer}
+use Rattle.no_verify_paths.proofs.Judging.{one_answer}
 use Rattle.no_room.specs.Accepted.{Accepted}
-use Rattle.no_typing.specs.Places.{fault_at}
-use Rattle.no_typing.specs.declared.place.FaultPlace.{FaultPlace}
+use Rattle.no_verify_types.specs.Places.{fault_at}
+use Rattle.no_verify_types.specs.declared.place.FaultPlace.{FaultPlace}
 use Rattle.no_verify.specs.Kinds.{IsPlace, IsUnassignedAt, IsUnassignedPlace}
 use Rattle.no_verify.specs.Verdict.{AreNowhere, IsAccepted, IsFaulty, IsFirstFault, IsVerdict, judged_kinds, place_of}
 use Rattle.no_verify.specs.declared.fault.VerifyError.{VerifyError}

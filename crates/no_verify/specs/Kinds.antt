@@ -5,17 +5,17 @@ use Rattle.no_ir.specs.declared.function.Module.{Module}
 use Rattle.no_ir.specs.declared.function.Role.{Role}
 use Rattle.no_layout.specs.Sizes.{sizes_of}
 use Rattle.no_layout.specs.declared.layout.Layout.{Layout}
-use Rattle.no_typing.specs.declared.place.FaultPlace.{FaultPlace}
-use Rattle.no_typing.specs.Places.{external_fault_of, type_fault_of}
-use Rattle.no_paths.specs.Paths.{IsAnswer}
-use Rattle.no_kinds.specs.Ending.{ending_of}
-use Rattle.no_kinds.specs.Entry.{entry_of}
-use Rattle.no_kinds.specs.Large.{large_of}
-use Rattle.no_kinds.specs.Marks.{marks_of}
-use Rattle.no_kinds.specs.Phis.{phis_of}
-use Rattle.no_kinds.specs.Room.{room_fault_of}
-use Rattle.no_kinds.specs.Twice.{twice_of}
-use Rattle.no_kinds.specs.Unknown.{unknown_of}
+use Rattle.no_verify_types.specs.declared.place.FaultPlace.{FaultPlace}
+use Rattle.no_verify_types.specs.Places.{external_fault_of, type_fault_of}
+use Rattle.no_verify_paths.specs.Paths.{IsAnswer}
+use Rattle.no_verify_structure.specs.Ending.{ending_of}
+use Rattle.no_verify_structure.specs.Entry.{entry_of}
+use Rattle.no_verify_structure.specs.Large.{large_of}
+use Rattle.no_verify_structure.specs.Marks.{marks_of}
+use Rattle.no_verify_structure.specs.Phis.{phis_of}
+use Rattle.no_verify_structure.specs.Room.{room_fault_of}
+use Rattle.no_verify_structure.specs.Twice.{twice_of}
+use Rattle.no_verify_structure.specs.Unknown.{unknown_of}
 use Rattle.no_verify.specs.declared.fault.VerifyKind.{VerifyKind}
 use Rattle.no_verify.specs.declared.fault.VerifyKind.TheVariants as kind
 

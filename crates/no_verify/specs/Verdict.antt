@@ -8,8 +8,8 @@ use Rattle.no_layout.specs.declared.layout.Layout.{Layout}
 use Rattle.no_module.specs.Formed.{IsFormed}
 use Rattle.no_module.specs.Marks.{MarksAllowed}
 use Rattle.no_room.specs.Accepted.{Accepted}
-use Rattle.no_typing.specs.declared.place.FaultPlace.{FaultPlace}
-use Rattle.no_typing.specs.Places.{fault_at}
+use Rattle.no_verify_types.specs.declared.place.FaultPlace.{FaultPlace}
+use Rattle.no_verify_types.specs.Places.{fault_at}
 use Rattle.no_verify.specs.declared.fault.VerifyKind.{VerifyKind}
 use Rattle.no_verify.specs.declared.fault.VerifyKind.TheVariants as kind
 use Rattle.no_verify.specs.declared.fault.VerifyFault.{VerifyFault}

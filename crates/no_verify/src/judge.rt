@@ -1,18 +1,18 @@
 ghost use Rattle.std.specs.Prelude.{◌≡◌, ◌≢◌, IfOk, None, true};
 ghost use Rattle.no_layout.specs.Sizes.{sizes_of};
 ghost use Rattle.no_layout.specs.Text.{is_formed};
-ghost use Rattle.no_kinds.specs.Large.{large_of};
+ghost use Rattle.no_verify_structure.specs.Large.{large_of};
 ghost use Rattle.no_verify.specs.Kinds.{IsPlace};
 ghost use Rattle.no_verify.specs.Verdict.{IsLaterAnswer, later_kinds, place_of};
 
 use crate::unassigned::unassigned_fault;
 use crate::{VerifyFault, VerifyKind};
 use no_ir::{Module, NoMemory, Role};
-use no_kinds::{
+use no_layout::{Layout, Sizes};
+use no_verify_structure::{
     ending_fault_in, entry_fault, marks_fault, phis_fault, room_fault, twice_fault, unknown_fault,
 };
-use no_layout::{Layout, Sizes};
-use no_typing::{FaultPlace, external_fault, type_fault};
+use no_verify_types::{FaultPlace, external_fault, type_fault};
 use std::alloc::Global;
 
 /// The kinds of faults that are judged after sizes of types, in their order.

@@ -1,10 +1,10 @@
 ghost use Rattle.std.specs.Prelude.{◌≡◌, IfOk};
-ghost use Rattle.no_typing.specs.Places.{fault_at};
+ghost use Rattle.no_verify_types.specs.Places.{fault_at};
 ghost use Rattle.no_verify.specs.Kinds.{IsUnassignedPlace};
 
 use no_ir::{Function, NoMemory};
-use no_paths::assigned;
-use no_typing::FaultPlace;
+use no_verify_paths::assigned;
+use no_verify_types::FaultPlace;
 use std::alloc::Global;
 
 /// The place of a use in a function. 2^32 functions and more, for which no text has room, are want of memory.

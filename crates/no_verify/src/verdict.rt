@@ -7,8 +7,8 @@ ghost use Rattle.no_verify.specs.Verdict.{IsVerdict};
 use crate::judge::{fault_of, later_fault};
 use crate::{Sound, VerifyError, VerifyKind};
 use no_ir::{Module, Role};
-use no_kinds::large_fault;
 use no_layout::Layout;
+use no_verify_structure::large_fault;
 use std::alloc::Global;
 
 /// Judges a module in its role: the layout first, then the kinds of faults in the order BadType, Twice, UnknownName,

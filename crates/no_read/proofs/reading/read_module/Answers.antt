@@ -1,4 +1,4 @@
-use Rattle.no_types.proofs.LiftLaws.{lift_found}
+use Rattle.no_read_types.proofs.LiftLaws.{lift_found}
 use Rattle.no_read.proofs.FormedLaws.{answer_formed, answer_unmarked}
 use Rattle.no_read.proofs.ReadingLaws.{only_read}
 use Rattle.no_read.proofs.reading.read_module.Goals as goal

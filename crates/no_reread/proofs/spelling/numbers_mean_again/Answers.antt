@@ -1,7 +1,7 @@
 use Rattle.std.proofs.Common.{refl, subst, ◌≡◌, Ok, ℕ}
 use Rattle.std.specs.Fmt.{signed_decimal}
-use Rattle.no_grammar.specs.Numbers.{integer_at}
-use Rattle.no_grammar.specs.declared.types.TypeHead.TheVariants as head
+use Rattle.no_read_rules.specs.Numbers.{integer_at}
+use Rattle.no_read_rules.specs.declared.types.TypeHead.TheVariants as head
 use Rattle.no_print.specs.Names.{signed}
 use Rattle.no_reread.proofs.Numbers.{integer_again, index_again, count_again}
 use Rattle.no_reread.proofs.Widths.{word_head}

@@ -1,4 +1,4 @@
-use Rattle.no_typing.specs.Named.{constant_names}
+use Rattle.no_verify_types.specs.Named.{constant_names}
 use Rattle.no_taken.proofs.Flags.{marked_all, marked_on}
 use Rattle.no_taken.proofs.marks.+taken.Goals as goal
 

@@ -1,6 +1,6 @@
 use Rattle.std.proofs.Common.{◌≡◌, drop}
 use Rattle.std.specs.List.{flat_map}
-use Rattle.no_typing.specs.Named.{constant_names}
+use Rattle.no_verify_types.specs.Named.{constant_names}
 use Rattle.no_taken.specs.Marked.{marked}
 use Rattle.no_taken.proofs.marks.+taken.Given as goal
 

@@ -1,4 +1,4 @@
-use Rattle.no_typing.specs.Named.{global_names}
+use Rattle.no_verify_types.specs.Named.{global_names}
 use Rattle.no_taken.proofs.Flags.{marked_on}
 use Rattle.no_taken.proofs.marks.mark_globals.Goals as goal
 

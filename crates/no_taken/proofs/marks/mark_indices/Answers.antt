@@ -1,6 +1,6 @@
 use Rattle.std.proofs.Common.{ℕ}
 use Rattle.no_ir.specs.declared.instruction.Operand.{Operand}
-use Rattle.no_typing.specs.Named.{operand_names}
+use Rattle.no_verify_types.specs.Named.{operand_names}
 use Rattle.no_taken.proofs.Flags.{marked_on}
 use Rattle.no_taken.proofs.marks.mark_indices.Goals as goal
 

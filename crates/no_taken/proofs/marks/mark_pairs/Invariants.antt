@@ -1,6 +1,6 @@
 use Rattle.std.proofs.Common.{◌≡◌, drop}
 use Rattle.std.specs.List.{flat_map}
-use Rattle.no_typing.specs.Named.{operand_names}
+use Rattle.no_verify_types.specs.Named.{operand_names}
 use Rattle.no_taken.specs.Marked.{marked}
 use Rattle.no_taken.proofs.marks.mark_pairs.Given as goal
 

@@ -1,6 +1,6 @@
 use Rattle.std.proofs.Common.{◌≡◌, ◌≤◌, Some, length, slice_get, refl, subst, arith}
 use Rattle.std.proofs.lemmas.Option.{slice_get_read}
-use Rattle.no_paths.specs.Paths.{IsAnswer}
+use Rattle.no_verify_paths.specs.Paths.{IsAnswer}
 use Rattle.no_verify.proofs.Firsts.{all_assigned, first_unassigned, more_assigned}
 use Rattle.no_verify.proofs.unassigned.unassigned_fault.Goals as goal
 

@@ -1,5 +1,5 @@
 use Rattle.std.proofs.Common.{Ok, refl, sym, subst}
-use Rattle.no_kinds.specs.Large.{IsLargeAnswer}
+use Rattle.no_verify_structure.specs.Large.{IsLargeAnswer}
 use Rattle.no_verify.specs.Kinds.{IsPlace}
 use Rattle.no_verify.specs.Verdict.{IsLaterAnswer, later_kinds}
 use Rattle.no_verify.specs.declared.fault.VerifyKind.TheVariants as kind

@@ -1,5 +1,0 @@
-use Rattle.std.proofs.Common.{refl, sym}
-use Rattle.no_attrs.proofs.marks.text_mark.Goals as goal
-
-pub returns-else-says : goal.returns-else-says
-returns-else-says c = rw (sym c.if-says.ensures) refl

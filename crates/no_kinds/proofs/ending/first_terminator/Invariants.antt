@@ -1,9 +1,0 @@
-use Rattle.std.proofs.Common.{drop, not, ◌≡◌}
-use Rattle.no_ir.specs.declared.instruction.Instr.{Instr}
-use Rattle.no_kinds.specs.Ending.{first_terminator}
-use Rattle.no_kinds.specs.Finding.{first_break}
-use Rattle.no_kinds.specs.Parts.{is_terminator}
-use Rattle.no_kinds.proofs.ending.first_terminator.Given as goal
-
-abbrev pub invariant-loop-i : goal.invariant-loop-i
-invariant-loop-i l = first_terminator l.instrs ≡ first_break (λ i (instr : Instr). not (is_terminator instr.op)) l.i (drop l.i l.instrs)

@@ -1,5 +1,0 @@
-use Rattle.no_paths.proofs.Bits.{has_none}
-use Rattle.no_paths.proofs.sets.set_of.Goals as goal
-
-pub loop-register-init : goal.loop-register-init
-loop-register-init c = has_none

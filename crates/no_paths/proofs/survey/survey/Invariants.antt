@@ -1,5 +1,0 @@
-use Rattle.no_paths.specs.Survey.{IsNotebook}
-use Rattle.no_paths.proofs.survey.survey.Given as goal
-
-abbrev pub invariant-loop-number : goal.invariant-loop-number
-invariant-loop-number l = IsNotebook l.function l.book l.number 0

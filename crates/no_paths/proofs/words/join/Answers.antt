@@ -1,5 +1,0 @@
-use Rattle.no_paths.proofs.Bits.{has_either}
-use Rattle.no_paths.proofs.words.join.Goals as goal
-
-pub returns : goal.returns
-returns c = has_either c.args.a c.args.b

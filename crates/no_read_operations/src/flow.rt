@@ -1,0 +1,373 @@
+ghost use Rattle.std.specs.Prelude.{◌≡◌, ◌∷◌, [], true, false, codes};
+ghost use Rattle.no_ir.specs.declared.types.Ty.{Ty};
+ghost use Rattle.no_read_rules.specs.Repeated.{repeat_all};
+ghost use Rattle.no_read_rules.specs.Rules.{Gives, passed, plain, checked};
+ghost use Rattle.no_read_rules.specs.Scope.{Meaning, seen};
+ghost use Rattle.no_read_constants.specs.Places.{width_of};
+ghost use Rattle.no_read_registers.specs.declared.locals.Locals.{Locals};
+ghost use Rattle.no_read_operations.specs.Folded.{folded_all};
+ghost use Rattle.no_read_operations.specs.Ends.{ended, finish, is_comma, list_item, list_attachment, list_step};
+ghost use Rattle.no_read_operations.specs.Flow.{return_void, return_value, ret, branch, branch_if, br, same_width, a_case, no_case, one_case, more_case, switch, a_pair, phi};
+
+use crate::ends::{Listed, an_attachment, comma_next, end_mark};
+use crate::operands::{an_operand, some_type};
+use no_ir::{List, Op, Operand, Role, Ty};
+use no_lex::{Token, TokenKind};
+use no_read_constants::{number_at, width_of};
+use no_read_registers::{Locals, a_label, a_label_name};
+use no_read_rules::{Scope, Stop, is_kind, is_sign, is_word, skip_sign, skip_word, syntax};
+use std::alloc::Global;
+
+// ---- `ret` and `br`
+
+#[tactic(auto, unfolding(crate::specs::Flow::return_void, crate::specs::Ends::finish))]
+fn return_void<'b>(
+    scope: &Scope,
+    role: Role,
+    tokens: &'b [Token],
+) -> Result<((Op, bool), &'b [Token]), Stop>
+    ensures { (s : Locals) → Gives (λ x. (x.0, s, x.1.now)) result ((ended (seen scope.now).text role false (return_void (seen scope.now))).read s tokens.now) }
+{
+    let rest = skip_word(scope.text, b"void", tokens)?;
+    let (inserted, rest) = end_mark(scope.text, role, false, rest)?;
+    Ok(((Op::Ret(None), inserted), rest))
+}
+
+#[tactic(auto, unfolding(crate::specs::Flow::return_value, crate::specs::Ends::finish))]
+fn return_value<'b>(
+    alloc: Global,
+    scope: &Scope,
+    role: Role,
+    locals: &mut Locals,
+    tokens: &'b [Token],
+) -> Result<((Op, bool), &'b [Token]), Stop>
+    ensures { Gives (λ x. (x.0, locals.new, x.1.now)) result ((ended (seen scope.now).text role false (return_value (seen scope.now))).read locals.old tokens.now) }
+{
+    let (of, rest) = some_type(alloc, scope, tokens)?;
+    let (value, rest) = an_operand(alloc, scope, locals, &of, rest)?;
+    let (inserted, rest) = end_mark(scope.text, role, false, rest)?;
+    Ok(((Op::Ret(Some((of, value))), inserted), rest))
+}
+
+/// Behind `ret`: `void`, or `T a`.
+pub fn ret<'b>(
+    alloc: Global,
+    scope: &Scope,
+    role: Role,
+    locals: &mut Locals,
+    tokens: &'b [Token],
+) -> Result<((Op, bool), &'b [Token]), Stop>
+    ensures { Gives (λ x. (x.0, locals.new, x.1.now)) result ((ended (seen scope.now).text role false (ret (seen scope.now))).read locals.old tokens.now) }
+{
+    match tokens {
+        [token, ..] if is_word(scope.text, b"void", token) => return_void(scope, role, tokens),
+        _ => return_value(alloc, scope, role, locals, tokens),
+    }
+}
+
+#[tactic(auto, unfolding(crate::specs::Flow::branch, crate::specs::Ends::finish))]
+fn branch<'b>(
+    alloc: Global,
+    scope: &Scope,
+    role: Role,
+    locals: &mut Locals,
+    tokens: &'b [Token],
+) -> Result<((Op, bool), &'b [Token]), Stop>
+    ensures { Gives (λ x. (x.0, locals.new, x.1.now)) result ((ended (seen scope.now).text role false (branch (seen scope.now))).read locals.old tokens.now) }
+{
+    let (label, rest) = a_label(alloc, scope.text, locals, tokens)?;
+    let (inserted, rest) = end_mark(scope.text, role, false, rest)?;
+    Ok(((Op::Br(label), inserted), rest))
+}
+
+#[tactic(auto, unfolding(crate::specs::Flow::branch_if, crate::specs::Ends::finish))]
+fn branch_if<'b>(
+    alloc: Global,
+    scope: &Scope,
+    role: Role,
+    locals: &mut Locals,
+    tokens: &'b [Token],
+) -> Result<((Op, bool), &'b [Token]), Stop>
+    ensures { Gives (λ x. (x.0, locals.new, x.1.now)) result ((ended (seen scope.now).text role false (branch_if (seen scope.now))).read locals.old tokens.now) }
+{
+    let rest = skip_word(scope.text, b"i1", tokens)?;
+    let (condition, rest) = an_operand(alloc, scope, locals, &Ty::Int(1), rest)?;
+    let rest = skip_sign(scope.text, b",", rest)?;
+    let (first, rest) = a_label(alloc, scope.text, locals, rest)?;
+    let rest = skip_sign(scope.text, b",", rest)?;
+    let (second, rest) = a_label(alloc, scope.text, locals, rest)?;
+    let (inserted, rest) = end_mark(scope.text, role, false, rest)?;
+    Ok(((Op::CondBr(condition, first, second), inserted), rest))
+}
+
+/// Behind `br`: `label %l`, or `i1 c, label %l, label %m`.
+pub fn br<'b>(
+    alloc: Global,
+    scope: &Scope,
+    role: Role,
+    locals: &mut Locals,
+    tokens: &'b [Token],
+) -> Result<((Op, bool), &'b [Token]), Stop>
+    ensures { Gives (λ x. (x.0, locals.new, x.1.now)) result ((ended (seen scope.now).text role false (br (seen scope.now))).read locals.old tokens.now) }
+{
+    match tokens {
+        [token, ..] if is_word(scope.text, b"label", token) => branch(
+            alloc, scope, role, locals, tokens,
+        ),
+        _ => branch_if(alloc, scope, role, locals, tokens),
+    }
+}
+
+// ---- `switch`
+
+fn this_width<'b>(text: &[u8], want: u8, tokens: &'b [Token]) -> Result<&'b [Token], Stop>
+    ensures { Gives (λ rest. passed rest.now) result ((checked (plain (width_of text.now)) (same_width want)).read tt tokens.now) }
+{
+    let (width, rest) = width_of(text, tokens)?;
+    if width == want {
+        Ok(rest)
+    } else {
+        Err(syntax(tokens))
+    }
+}
+
+#[tactic(auto, unfolding(crate::specs::Flow::a_case))]
+fn a_case<'b>(
+    alloc: Global,
+    scope: &Scope,
+    locals: &mut Locals,
+    width: u8,
+    tokens: &'b [Token],
+) -> Result<((u64, u32), &'b [Token]), Stop>
+    ensures { Gives (λ x. (x.0, locals.new, x.1.now)) result ((a_case (seen scope.now) width).read locals.old tokens.now) }
+{
+    let rest = this_width(scope.text, width, tokens)?;
+    let (number, rest) = number_at(scope.text, width, rest)?;
+    let rest = skip_sign(scope.text, b",", rest)?;
+    let (label, rest) = a_label(alloc, scope.text, locals, rest)?;
+    Ok(((number, label), rest))
+}
+
+#[tactic(auto, unfolding(crate::specs::Flow::no_case))]
+fn no_case<'b>(
+    scope: &Scope,
+    tokens: &'b [Token],
+) -> Result<(Option<(u64, u32)>, &'b [Token]), Stop>
+    ensures { (s : Locals) → Gives (λ x. (x.0, s, x.1.now)) result ((no_case (seen scope.now)).read s tokens.now) }
+{
+    let rest = skip_sign(scope.text, b"]", tokens)?;
+    Ok((None, rest))
+}
+
+#[tactic(auto, unfolding(crate::specs::Flow::one_case))]
+fn one_case<'b>(
+    alloc: Global,
+    scope: &Scope,
+    locals: &mut Locals,
+    width: u8,
+    tokens: &'b [Token],
+) -> Result<(Option<(u64, u32)>, &'b [Token]), Stop>
+    ensures { Gives (λ x. (x.0, locals.new, x.1.now)) result ((one_case (seen scope.now) width).read locals.old tokens.now) }
+{
+    let (found, rest) = a_case(alloc, scope, locals, width, tokens)?;
+    Ok((Some(found), rest))
+}
+
+fn more_case<'b>(
+    alloc: Global,
+    scope: &Scope,
+    locals: &mut Locals,
+    width: u8,
+    tokens: &'b [Token],
+) -> Result<(Option<(u64, u32)>, &'b [Token]), Stop>
+    ensures { Gives (λ x. (x.0, locals.new, x.1.now)) result ((more_case (seen scope.now) width).read locals.old tokens.now) }
+{
+    match tokens {
+        [token, ..] if is_sign(scope.text, b"]", token) => no_case(scope, tokens),
+        _ => one_case(alloc, scope, locals, width, tokens),
+    }
+}
+
+fn cases<'b>(
+    alloc: Global,
+    scope: &Scope,
+    locals: &mut Locals,
+    width: u8,
+    tokens: &'b [Token],
+) -> Result<(List<(u64, u32)>, &'b [Token]), Stop>
+    ensures { Gives (λ x. (x.0, locals.new, x.1.now)) result (repeat_all (more_case (seen scope.now) width) locals.old tokens.now) }
+{
+    let mut all = List::new(alloc);
+    let mut rest = tokens;
+    loop {
+        let (item, after) = more_case(alloc, scope, locals, width, rest)?;
+        match item {
+            None => return Ok((all, after)),
+            Some(found) => {
+                all.push(found)?;
+                rest = after;
+            }
+        }
+    }
+}
+
+/// Behind `switch`: `iN a, label %d`, and cases `iN k, label %l` in square brackets.
+#[tactic(auto, unfolding(crate::specs::Flow::switch, crate::specs::Ends::finish))]
+pub fn switch<'b>(
+    alloc: Global,
+    scope: &Scope,
+    role: Role,
+    locals: &mut Locals,
+    tokens: &'b [Token],
+) -> Result<((Op, bool), &'b [Token]), Stop>
+    ensures { Gives (λ x. (x.0, locals.new, x.1.now)) result ((ended (seen scope.now).text role false (switch (seen scope.now))).read locals.old tokens.now) }
+{
+    let (width, rest) = width_of(scope.text, tokens)?;
+    let (value, rest) = an_operand(alloc, scope, locals, &Ty::Int(width), rest)?;
+    let rest = skip_sign(scope.text, b",", rest)?;
+    let (other, rest) = a_label(alloc, scope.text, locals, rest)?;
+    let rest = skip_sign(scope.text, b"[", rest)?;
+    let (cases, rest) = cases(alloc, scope, locals, width, rest)?;
+    let (inserted, rest) = end_mark(scope.text, role, false, rest)?;
+    Ok(((Op::Switch(width, value, other, cases), inserted), rest))
+}
+
+// ---- `phi`
+
+#[tactic(auto, unfolding(crate::specs::Flow::a_pair))]
+fn a_pair<'b>(
+    alloc: Global,
+    scope: &Scope,
+    locals: &mut Locals,
+    of: &Ty,
+    tokens: &'b [Token],
+) -> Result<((Operand, u32), &'b [Token]), Stop>
+    ensures { Gives (λ x. (x.0, locals.new, x.1.now)) result ((a_pair (seen scope.now) of.now).read locals.old tokens.now) }
+{
+    let rest = skip_sign(scope.text, b"[", tokens)?;
+    let (value, rest) = an_operand(alloc, scope, locals, of, rest)?;
+    let rest = skip_sign(scope.text, b",", rest)?;
+    let (label, rest) = a_label_name(alloc, scope.text, locals, rest)?;
+    let rest = skip_sign(scope.text, b"]", rest)?;
+    Ok(((value, label), rest))
+}
+
+#[tactic(auto, unfolding(crate::specs::Ends::list_item))]
+fn pair_item<'b>(
+    alloc: Global,
+    scope: &Scope,
+    locals: &mut Locals,
+    of: &Ty,
+    listed: Listed<(Operand, u32)>,
+    tokens: &'b [Token],
+) -> Result<(Listed<(Operand, u32)>, &'b [Token]), Stop>
+    ensures { Gives (λ x. (x.0, locals.new, x.1.now)) result ((list_item (a_pair (seen scope.now) of.now) listed).read locals.old tokens.now) }
+{
+    let Listed {
+        mut items,
+        inserted,
+        ..
+    } = listed;
+    let (item, rest) = a_pair(alloc, scope, locals, of, tokens)?;
+    items.push(item)?;
+    let listed = Listed {
+        items,
+        begun: false,
+        inserted,
+    };
+    Ok((listed, rest))
+}
+
+#[tactic(auto, unfolding(crate::specs::Ends::list_attachment))]
+fn pair_attachment<'b>(
+    text: &[u8],
+    role: Role,
+    listed: Listed<(Operand, u32)>,
+    tokens: &'b [Token],
+) -> Result<(Listed<(Operand, u32)>, &'b [Token]), Stop>
+    ensures { (s : Locals) → Gives (λ x. (x.0, s, x.1.now)) result ((list_attachment text.now role listed).read s tokens.now) }
+{
+    let Listed {
+        items,
+        inserted,
+        ..
+    } = listed;
+    let (inserted, rest) = an_attachment(text, role, inserted, tokens)?;
+    let listed = Listed {
+        items,
+        begun: true,
+        inserted,
+    };
+    Ok((listed, rest))
+}
+
+#[tactic(auto, unfolding(crate::specs::Ends::list_step))]
+fn pair_step<'b>(
+    alloc: Global,
+    scope: &Scope,
+    role: Role,
+    locals: &mut Locals,
+    of: &Ty,
+    listed: Listed<(Operand, u32)>,
+    tokens: &'b [Token],
+) -> Result<(Listed<(Operand, u32)>, &'b [Token]), Stop>
+    ensures { Gives (λ x. (x.0, locals.new, x.1.now)) result ((list_step (seen scope.now).text role (a_pair (seen scope.now) of.now) listed).read locals.old tokens.now) }
+{
+    let rest = skip_sign(scope.text, b",", tokens)?;
+    match rest {
+        [token, ..] if !listed.begun && !is_kind(TokenKind::Meta, token) => pair_item(
+            alloc, scope, locals, of, listed, rest,
+        ),
+        _ => pair_attachment(scope.text, role, listed, rest),
+    }
+}
+
+fn pairs<'b>(
+    alloc: Global,
+    scope: &Scope,
+    role: Role,
+    locals: &mut Locals,
+    of: &Ty,
+    start: Listed<(Operand, u32)>,
+    tokens: &'b [Token],
+) -> Result<(Listed<(Operand, u32)>, &'b [Token]), Stop>
+    ensures { Gives (λ x. (x.0, locals.new, x.1.now)) result (folded_all (is_comma (seen scope.now).text) (list_step (seen scope.now).text role (a_pair (seen scope.now) of.now)) start locals.old tokens.now) }
+{
+    let mut listed = start;
+    let mut rest = tokens;
+    while comma_next(scope.text, rest) {
+        let (next, after) = pair_step(alloc, scope, role, locals, of, listed, rest)?;
+        listed = next;
+        rest = after;
+    }
+    Ok((listed, rest))
+}
+
+/// Behind `phi`: `T`, at least one `[ a, %l ]`, and attachments; whether the partition made the instruction.
+#[tactic(auto, unfolding(crate::specs::Flow::phi))]
+pub fn phi<'b>(
+    alloc: Global,
+    scope: &Scope,
+    role: Role,
+    locals: &mut Locals,
+    tokens: &'b [Token],
+) -> Result<((Op, bool), &'b [Token]), Stop>
+    ensures { Gives (λ x. (x.0, locals.new, x.1.now)) result ((phi (seen scope.now) role).read locals.old tokens.now) }
+{
+    let (of, rest) = some_type(alloc, scope, tokens)?;
+    let (first, rest) = a_pair(alloc, scope, locals, &of, rest)?;
+    let mut items = List::new(alloc);
+    items.push(first)?;
+    let start = Listed {
+        items,
+        begun: false,
+        inserted: false,
+    };
+    let (all, rest) = pairs(alloc, scope, role, locals, &of, start, rest)?;
+    let Listed {
+        items,
+        inserted,
+        ..
+    } = all;
+    Ok(((Op::Phi(of, items), inserted), rest))
+}

@@ -1,6 +1,0 @@
-use Rattle.std.proofs.Common.{[], ap, ◌∙◌}
-use Rattle.no_types.proofs.WatcherLaws.{seen_set}
-use Rattle.no_types.proofs.watchers.Watchers.take_watchers.Goals as goal
-
-pub returns-clause-none : goal.returns-clause-none
-returns-clause-none c = rw (← c.self.view_is) (seen_set c.self.inside.lists.items c.args.watched c.replace.new.dest [] (ap (λ v. v.items) c.replace.ensures.after ∙ c.new.ensures.items))

@@ -1,7 +1,0 @@
-use Rattle.std.proofs.Common.{◌≡◌, drop, map}
-use Rattle.no_typing.specs.Addresses.{inner_lead}
-use Rattle.no_typing.specs.Typing.{stated_field}
-use Rattle.no_typing.proofs.paths.inner_leads.Given as goal
-
-abbrev pub invariant-loop-index : goal.invariant-loop-index
-invariant-loop-index l = inner_lead l.program.types l.base (map stated_field l.indices) ≡ inner_lead l.program.types l.at (map stated_field (drop l.index-index l.indices))

@@ -1,7 +1,0 @@
-use Rattle.std.proofs.Common.{◌≡◌, ◌++◌, take}
-use Rattle.std.specs.List.{flat_map}
-use Rattle.no_typing.specs.Registers.{instr_defined}
-use Rattle.no_typing.proofs.registers.add_block.Given as goal
-
-abbrev pub invariant-loop-instr : goal.invariant-loop-instr
-invariant-loop-instr l = l.all.items ≡ l.fn.all.items ++ flat_map instr_defined (take l.instr-index l.instrs)

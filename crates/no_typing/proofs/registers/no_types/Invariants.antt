@@ -1,5 +1,0 @@
-use Rattle.std.proofs.Common.{◌≡◌, replicate, None}
-use Rattle.no_typing.proofs.registers.no_types.Given as goal
-
-abbrev pub invariant-loop : goal.invariant-loop
-invariant-loop l = l.types.items ≡ replicate l.counter None

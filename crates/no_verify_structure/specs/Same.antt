@@ -1,0 +1,88 @@
+-- Equal operands: the same register, or the same constant.
+use Rattle.std.specs.Prelude.{ℕ, ℤ, Bool, true, false, ◌&&◌, ◌==◌, bytes_eq, List, [], ◌∷◌, map}
+use Rattle.std.specs.Ordering.{int_eq}
+use Rattle.no_ir.specs.declared.constant.Const.{Const, out-Const}
+use Rattle.no_ir.specs.declared.constant.Const.TheOpen.{Const-F}
+use Rattle.no_ir.specs.declared.constant.Const.TheFolds.{fold-Const}
+use Rattle.no_ir.specs.declared.constant.Place.{Place}
+use Rattle.no_ir.specs.declared.constant.Symbol.{Symbol}
+use Rattle.no_ir.specs.declared.constant.Symbol.TheVariants as symbol
+use Rattle.no_ir.specs.declared.instruction.Operand.{Operand}
+use Rattle.no_ir.specs.declared.instruction.Operand.TheVariants as operand
+use Rattle.no_read_rules.specs.Types.{same_type}
+
+-- ---- addresses
+
+abbrev pub same_symbol : Symbol → Symbol → Bool
+same_symbol (symbol.Global k) (symbol.Global j) = k == j
+same_symbol (symbol.Function k) (symbol.Function j) = k == j
+same_symbol (symbol.Unknown a) (symbol.Unknown b) = bytes_eq a b
+same_symbol _ _ = false
+
+abbrev pub indices_in : List (ℤ → Bool) → List ℤ → Bool
+indices_in [] [] = true
+indices_in (same ∷ more) (i ∷ is) = same i && indices_in more is
+indices_in _ _ = false
+
+abbrev pub same_indices : List ℤ → List ℤ → Bool
+same_indices a b = indices_in (map int_eq a) b
+
+abbrev pub same_place : Place → Place → Bool
+same_place a b = same_symbol a.symbol b.symbol && (same_type a.base b.base && same_indices a.indices b.indices)
+
+-- ---- constants
+
+abbrev pub zero_in : {A : Type 0} → Const-F A → Bool
+zero_in Const-F.Zero = true
+zero_in _ = false
+
+abbrev pub int_in : {A : Type 0} → ℕ → Const-F A → Bool
+int_in n (Const-F.Int m) = n == m
+int_in n _ = false
+
+abbrev pub text_in : {A : Type 0} → List ℕ → Const-F A → Bool
+text_in text (Const-F.Str other) = bytes_eq text other
+text_in text _ = false
+
+abbrev pub each_in : List (Const → Bool) → List Const → Bool
+each_in [] [] = true
+each_in (same ∷ more) (c ∷ cs) = same c && each_in more cs
+each_in _ _ = false
+
+abbrev pub elements_in : List (Const → Bool) → Const-F Const → Bool
+elements_in elements (Const-F.Array others) = each_in elements others
+elements_in elements _ = false
+
+abbrev pub fields_in : List (Const → Bool) → Const-F Const → Bool
+fields_in fields (Const-F.Struct others) = each_in fields others
+fields_in fields _ = false
+
+abbrev pub address_in : {A : Type 0} → Place → Const-F A → Bool
+address_in place (Const-F.Address other) = same_place place other
+address_in place _ = false
+
+abbrev pub address_number_in : {A : Type 0} → Place → Const-F A → Bool
+address_number_in place (Const-F.AddressAsInt other) = same_place place other
+address_number_in place _ = false
+
+abbrev pub pointer_in : {A : Type 0} → ℕ → Const-F A → Bool
+pointer_in n (Const-F.IntAsPtr m) = n == m
+pointer_in n _ = false
+
+abbrev pub same_step : Const-F (Const → Bool) → Const → Bool
+same_step Const-F.Zero c = zero_in (out-Const c)
+same_step (Const-F.Int n) c = int_in n (out-Const c)
+same_step (Const-F.Str text) c = text_in text (out-Const c)
+same_step (Const-F.Array elements) c = elements_in elements (out-Const c)
+same_step (Const-F.Struct fields) c = fields_in fields (out-Const c)
+same_step (Const-F.Address place) c = address_in place (out-Const c)
+same_step (Const-F.AddressAsInt place) c = address_number_in place (out-Const c)
+same_step (Const-F.IntAsPtr n) c = pointer_in n (out-Const c)
+
+abbrev pub same_constant : Const → Const → Bool
+same_constant = fold-Const (Const → Bool) same_step
+
+abbrev pub same_operand : Operand → Operand → Bool
+same_operand (operand.Reg r) (operand.Reg s) = r == s
+same_operand (operand.Const c) (operand.Const d) = same_constant c d
+same_operand _ _ = false
