@@ -16,10 +16,10 @@ use Rattle.no_semantics.specs.Values.{Program}
 use Rattle.no_semantics.proofs.Running.{affords, first_of}
 use Rattle.no_progress.proofs.Steady.{KeepsWithin, LeavesBy, step_steady}
 use Rattle.no_ir.specs.declared.instruction.Instr.{Instr}
-use Rattle.no_machine.specs.Called.{HasNoMarks}
-use Rattle.no_machine.specs.Running.{Stays, budget_of, count_of, state_of}
-use Rattle.no_machine.specs.Running as machine
-use Rattle.no_machine.specs.declared.machine.StepAnswer.TheVariants as answer
+use Rattle.no_semantics.specs.States.{HasNoMarks}
+use Rattle.no_walker.specs.Running.{Stays, budget_of, count_of, state_of}
+use Rattle.no_walker.specs.Running as machine
+use Rattle.no_walker.specs.declared.machine.StepAnswer.TheVariants as answer
 use Rattle.no_app.specs.Jobs.{Local, IsFed, is_open, work_left}
 use Rattle.no_app.proofs.Jobs.{So, emptied}
 use Rattle.no_app.proofs.Ways.{RanBy}

@@ -12,11 +12,11 @@ use Rattle.no_ir.specs.declared.function.Role.{Role}
 use Rattle.no_ir.specs.declared.function.Role.TheVariants.{Source}
 use Rattle.no_lib.specs.declared.env.Env.{Env}
 use Rattle.no_pages.specs.Table.{held_of, regions_of}
-use Rattle.no_machine.specs.Counted.{Counted, counted}
-use Rattle.no_machine.specs.Running.{HasNoMeaning, IsFor, Stays, budget_of, count_of, end_of, memory_of, state_of}
-use Rattle.no_machine.specs.Running as machine
-use Rattle.no_machine.specs.declared.machine.StepAnswer.{StepAnswer}
-use Rattle.no_machine.specs.declared.machine.StepAnswer.TheVariants as answer
+use Rattle.no_walker.specs.Counted.{Counted, counted}
+use Rattle.no_walker.specs.Running.{HasNoMeaning, IsFor, Stays, budget_of, count_of, end_of, memory_of, state_of}
+use Rattle.no_walker.specs.Running as machine
+use Rattle.no_walker.specs.declared.machine.StepAnswer.{StepAnswer}
+use Rattle.no_walker.specs.declared.machine.StepAnswer.TheVariants as answer
 use Rattle.no_semantics.specs.Accepted.{Accepted}
 use Rattle.no_semantics.specs.Acting.{step}
 use Rattle.no_semantics.specs.First.{program_of}

@@ -13,7 +13,7 @@ use Rattle.no_progress.proofs.Entering.{and_parts}
 use Rattle.no_semantics.specs.Accepted.{Accepted}
 use Rattle.no_semantics.specs.Registers.{given}
 use Rattle.no_verify.specs.Verdict.{IsAccepted}
-use Rattle.no_machine.specs.Called.{HasNoMarks}
+use Rattle.no_semantics.specs.States.{HasNoMarks}
 use Rattle.no_runnable.proofs.Modules.{accepted_begins}
 use Rattle.no_safe.proofs.Accepting.{own, has_main, runs}
 use Rattle.no_safe.proofs.Lists.{all_at}

@@ -6,8 +6,8 @@ use Rattle.no_layout.specs.Memory.{AreFormed}
 use Rattle.no_layout.specs.declared.memory.Regions.{Regions}
 use Rattle.no_pages.specs.declared.table.PageTable.{PageTable}
 use Rattle.no_pages.specs.Table.{byte_of, held_of, regions_of}
-use Rattle.no_machine.specs.Booted.{IsBooted}
-use Rattle.no_machine.specs.Running as machine
+use Rattle.no_walker.specs.Booted.{IsBooted}
+use Rattle.no_walker.specs.Running as machine
 use Rattle.no_semantics.specs.Accepted.{Accepted}
 use Rattle.no_semantics.specs.First.{program_of, first_byte}
 use Rattle.no_semantics.specs.Image as image

@@ -5,16 +5,16 @@ use Rattle.no_lib.specs.declared.env.Env.{Env}
 use Rattle.no_layout.specs.Memory.{Agrees, AreFormed}
 use Rattle.no_pages.specs.Table.{byte_of, held_of, regions_of}
 use Rattle.no_pages.specs.declared.table.PageTable.{PageTable}
-use Rattle.no_machine.specs.Counted.{Counted}
-use Rattle.no_machine.specs.Running.{count_of, budget_of}
-use Rattle.no_machine.specs.declared.machine.Machine.{Machine}
+use Rattle.no_walker.specs.Counted.{Counted}
+use Rattle.no_walker.specs.Running.{count_of, budget_of}
+use Rattle.no_walker.specs.declared.machine.Machine.{Machine}
 use Rattle.no_image.specs.Fits.{has_image}
 use Rattle.no_ir.specs.declared.function.Role.TheVariants.{Source}
 use Rattle.no_progress.specs.Proper.{Each}
 use Rattle.no_semantics.specs.First.{program_of, first_byte}
 use Rattle.no_semantics.specs.Starts.{main_from, start_of}
-use Rattle.no_machine.specs.Running as machine
-use Rattle.no_machine.specs.Called.{HasNoMarks}
+use Rattle.no_walker.specs.Running as machine
+use Rattle.no_semantics.specs.States.{HasNoMarks}
 use Rattle.no_semantics.specs.Accepted.{Accepted}
 use Rattle.no_semantics.specs.Lists.{is_empty}
 use Rattle.no_semantics.specs.Runs.{Ran, IsRun}

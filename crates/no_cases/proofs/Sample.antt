@@ -15,7 +15,7 @@ use Rattle.no_layout.specs.Sizes.{Measure, measure_of, measure_step}
 use Rattle.no_layout.specs.declared.extent.Extent.{Extent}
 use Rattle.no_semantics.specs.Sound.{block_fits, function_fits, is_scalar, is_scalar_step, is_sound, op_fits, operand_fits, symbol_fits, type_fits}
 use Rattle.no_semantics.specs.Starts.{main_from}
-use Rattle.no_machine.specs.Called.{HasNoMarks}
+use Rattle.no_semantics.specs.States.{HasNoMarks}
 use Rattle.no_cases.specs.Sample.{adds, body, layout, loads, main, named, number, reads, returns, sample, stores}
 
 both : (a b : Bool) → a ≡ true → b ≡ true → (a && b) ≡ true

@@ -1,6 +1,6 @@
 ghost use Rattle.std.specs.Prelude.{◌≡◌, ◌≤◌, IfOk, false};
 ghost use Rattle.no_cases.specs.Sample.{adds, body, getchar, loads, main, named, reads, returns, sample, stores};
-ghost use Rattle.no_machine.specs.Running.{IsFor, budget_of, count_of};
+ghost use Rattle.no_walker.specs.Running.{IsFor, budget_of, count_of};
 
 use no_ir::{
     BinOp, Block, Bytes, Const, End, Function, GlobalVar, Instr, List, Module, NoMemory, Op,
@@ -8,9 +8,9 @@ use no_ir::{
 };
 use no_layout::{Access, Layout, Loaded, Memory, Regions, Width};
 use no_lib::{Env, Input};
-use no_machine::{Machine, StepAnswer, Steps};
 use no_pages::PageTable;
 use no_semantics::Sound;
+use no_walker::{Machine, StepAnswer, Steps};
 use std::alloc::Global;
 use std::marker::Brand;
 use std::sync::ledger::{Blank, Ledger};

@@ -9,3 +9,4 @@ pub mod Moved
 pub mod Cleared
 pub mod Chosen
 pub mod Spelled
+pub mod Effects

@@ -1,18 +1,75 @@
-ghost use Rattle.std.specs.Prelude.{◌≡◌, ◌≢◌, ◌+◌, ◌*◌, ◌<◌, ◌≤◌, ◌^◌, ℕ, List, true};
-ghost use Rattle.no_layout.specs.Sizes.{type_align, type_stride};
-ghost use Rattle.no_semantics.specs.Access.{allocated, row_alloca};
-ghost use Rattle.no_semantics.specs.Image.{stated_or};
-ghost use Rattle.no_semantics.specs.Results.{alloca_value, count_of, lowered};
-ghost use Rattle.no_semantics.specs.Sound.{align_fits, count_fits, type_fits};
-ghost use Rattle.no_machine.specs.Acted.{Moves};
-ghost use Rattle.no_machine.specs.Held.{IsKept, program_in, state_in};
-ghost use Rattle.no_machine.specs.Outcomes.{IsPlace, value_of};
+ghost use Rattle.std.specs.Prelude.{◌≡◌, ◌+◌, ◌*◌, ◌<◌, ◌≤◌, ◌^◌, ℕ, true};
+ghost use Rattle.no_layout.specs.Width.{width_of};
+ghost use Rattle.no_semantics.specs.Results.{lowered};
+ghost use Rattle.no_semantics.specs.Sound.{is_width};
+ghost use Rattle.no_semantics.specs.Values.{bytes_of_width};
+ghost use Rattle.no_machine.specs.Slots.{value_in};
+ghost use Rattle.no_machine.specs.Did.{Allocates, IsReadyAlloca, IsReadyLoad, IsReadyStore, Loads, Stores};
 
-use crate::paths::stride_of;
-use crate::state::{Acted, Core, Outcome};
-use no_ir::{Operand, Trap, Ty};
-use no_layout::{Memory, STACK_START};
-use no_semantics::Sound;
+use crate::did::Did;
+use crate::slots::{put, read};
+use no_ir::Trap;
+use no_layout::{Loaded, Memory, STACK_START, Stored, Width};
+use no_semantics::{bytes_of, narrowed};
+
+/// The width in memory of a number of w bits.
+#[inline(always)]
+fn width(w: u8) -> Width
+    requires { is_width w ≡ true }
+    ensures bytes { width_of result ≡ bytes_of_width w }
+    ensures room { 2 ^ w ≤ 256 ^ width_of result }
+    ensures some { 0 < w }
+    ensures most { w ≤ 64 }
+{
+    Width::of(bytes_of(w))
+}
+
+/// Reads a number of w bits from memory.
+#[inline(always)]
+pub(crate) fn load<M: Memory>(
+    mem: &M,
+    big: bool,
+    w: u8,
+    window: &mut [u64],
+    constants: &[u64],
+    into: u32,
+    x: u32,
+) -> Did
+    requires { IsReadyLoad window.old constants.now w into x }
+    ensures { Loads (M.regions mem.now) (M.held mem.now) (M.byte mem.now) big w (value_in window.old constants.now x) into window.old window.new result }
+{
+    match mem.load(big, width(w), read(window, constants, x)) {
+        Loaded::Value(n) => put(window, into, narrowed(w, n)),
+        Loaded::Missing(page) => Did::WantPage(page),
+        Loaded::Refused(trap) => Did::Trapped(trap),
+    }
+}
+
+/// Writes a number of w bits to memory.
+#[inline(always)]
+pub(crate) fn store<M: Memory>(
+    mem: &mut M,
+    big: bool,
+    w: u8,
+    window: &[u64],
+    constants: &[u64],
+    y: u32,
+    x: u32,
+) -> Did
+    requires { IsReadyStore window.now constants.now w y x }
+    ensures stores { Stores (M.regions mem.old) (M.held mem.old) (M.byte mem.old) (M.byte mem.new) big w (value_in window.now constants.now x) (value_in window.now constants.now y) result }
+    ensures regions { M.regions mem.new ≡ M.regions mem.old }
+    ensures held { M.held mem.new ≡ M.held mem.old }
+{
+    let at = read(window, constants, x);
+    let n = read(window, constants, y);
+    match mem.store(big, width(w), at, n) {
+        Stored::Done => Did::Next,
+        Stored::Missing(page) => Did::WantPage(page),
+        Stored::Refused(trap) => Did::Trapped(trap),
+        Stored::NoMemory => Did::NoMemory,
+    }
+}
 
 /// The stack pointer less so many bytes, down to a multiple of the alignment.
 fn lower(sp: u32, bytes: u64, align: u64) -> Option<u32>
@@ -32,7 +89,7 @@ fn lower(sp: u32, bytes: u64, align: u64) -> Option<u32>
 }
 
 /// The stack pointer below so many values of a size.
-pub(crate) fn lower_by(sp: u32, count: u64, stride: u64, align: u64) -> Option<u32>
+fn lower_by(sp: u32, count: u64, stride: u64, align: u64) -> Option<u32>
     requires { 0 < align }
     ensures { result ≡ lowered sp (count * stride) align }
 {
@@ -42,95 +99,26 @@ pub(crate) fn lower_by(sp: u32, count: u64, stride: u64, align: u64) -> Option<u
     }
 }
 
-/// The alignment of a type, or a stated one.
-fn align_of(sound: &Sound, t: &Ty, align: Option<u32>) -> u64
-    requires fits { type_fits sound.now.layout sound.now.sizes t.now ≡ true }
-    requires align { align_fits align ≡ true }
-    ensures value { result ≡ stated_or align (type_align sound.now.layout sound.now.sizes t.now) }
-    ensures some { 0 < result }
+/// Room on the stack.
+#[inline(always)]
+pub(crate) fn allocate(
+    sp: &mut u32,
+    window: &mut [u64],
+    constants: &[u64],
+    into: u32,
+    x: u32,
+    stride: u32,
+    align: u32,
+) -> Did
+    requires { IsReadyAlloca window.old constants.now into x align }
+    ensures { Allocates sp.old (value_in window.old constants.now x * stride) align into window.old window.new sp.new result }
 {
-    match align {
-        Some(stated) => u64::from(stated),
-        None => sound.layout().align(sound.sizes(), t),
-    }
-}
-
-impl<M: Memory> Core<M> {
-    /// How many values an `alloca` makes room for.
-    fn count(&self, sound: &Sound, count: &Option<(u8, Operand)>) -> Option<u64>
-        requires { count_fits sound.now.«module» sound.now.layout sound.now.sizes count.now ≡ true }
-        ensures { result ≡ count_of (program_in M.regions sound.now self.now) self.now.frame.registers count.now }
-    {
-        match count {
-            None => Some(1),
-            Some((w, a)) => self.operand(sound, *w, a),
+    let count = read(window, constants, x);
+    match lower_by(*sp, count, u64::from(stride), u64::from(align)) {
+        Some(place) => {
+            *sp = place;
+            put(window, into, u64::from(place))
         }
-    }
-
-    /// The place below so many values of a type on the stack.
-    #[tactic(auto, unfolding(no_semantics::specs::Results::alloca_value))]
-    fn room(
-        &self,
-        sound: &Sound,
-        t: &Ty,
-        count: &Option<(u8, Operand)>,
-        align: Option<u32>,
-    ) -> Outcome
-        requires fits { type_fits sound.now.layout sound.now.sizes t.now ≡ true }
-        requires count { count_fits sound.now.«module» sound.now.layout sound.now.sizes count.now ≡ true }
-        requires align { align_fits align ≡ true }
-        ensures value { value_of result ≡ alloca_value (program_in M.regions sound.now self.now) self.now.frame.registers self.now.sp t.now count.now align }
-        ensures place { IsPlace result }
-    {
-        let Some(n) = self.count(sound, count) else {
-            return Outcome::Nothing;
-        };
-        match lower_by(self.sp, n, stride_of(sound, t), align_of(sound, t, align)) {
-            Some(place) => Outcome::Number(u64::from(place)),
-            None => Outcome::Traps(Trap::StackOverflow),
-        }
-    }
-
-    /// A place on the stack becomes the result, and the stack pointer.
-    pub(crate) fn finish_room(&mut self, into: Option<u32>, place: Outcome) -> Acted
-        requires room { self.old.frame.at + 1 < 2 ^ 64 }
-        requires place { IsPlace place }
-        ensures moves { (byte : ℕ → ℕ) → (input : List ℕ) → Moves (allocated into (value_of place) (state_in self.old byte input)) result (state_in self.old byte input) (state_in self.new byte input) }
-        ensures kept { IsKept M.regions M.held self.old self.new }
-        ensures bytes { M.byte self.new.mem ≡ M.byte self.old.mem }
-        ensures enough { result ≢ Acted.NoMemory }
-    {
-        match place {
-            Outcome::Number(place) => {
-                self.sp = place as u32;
-                self.assign(into, place);
-                Acted::Went(1)
-            }
-            Outcome::Traps(trap) => Acted::Trapped(trap),
-            Outcome::Nothing => Acted::Stuck,
-        }
-    }
-
-    /// Room on the stack.
-    #[tactic(auto, unfolding(no_semantics::specs::Access::row_alloca))]
-    pub(crate) fn allocate(
-        &mut self,
-        sound: &Sound,
-        into: Option<u32>,
-        t: &Ty,
-        count: &Option<(u8, Operand)>,
-        align: Option<u32>,
-    ) -> Acted
-        requires room { self.old.frame.at + 1 < 2 ^ 64 }
-        requires fits { type_fits sound.now.layout sound.now.sizes t.now ≡ true }
-        requires count { count_fits sound.now.«module» sound.now.layout sound.now.sizes count.now ≡ true }
-        requires align { align_fits align ≡ true }
-        ensures moves { (byte : ℕ → ℕ) → (input : List ℕ) → Moves (row_alloca (program_in M.regions sound.now self.old) into t.now count.now align (state_in self.old byte input)) result (state_in self.old byte input) (state_in self.new byte input) }
-        ensures kept { IsKept M.regions M.held self.old self.new }
-        ensures bytes { M.byte self.new.mem ≡ M.byte self.old.mem }
-        ensures enough { result ≢ Acted.NoMemory }
-    {
-        let place = self.room(sound, t, count, align);
-        self.finish_room(into, place)
+        None => Did::Trapped(Trap::StackOverflow),
     }
 }

@@ -1,228 +1,175 @@
-ghost use Rattle.std.specs.Prelude.{◌≡◌, ◌<◌, ◌≤◌, ℕ, List, length, replicate, slice_get, slice_index_or, false, IfOk, true};
-ghost use Rattle.no_semantics.specs.Calls.{are_passed, arguments_of, callee_value, entered, function_number, has_type, is_passed, passed, pointed};
-ghost use Rattle.no_semantics.specs.Sound.{args_fit, operand_fits};
-ghost use Rattle.no_semantics.specs.Taken.{is_callable};
-ghost use Rattle.no_machine.specs.Called.{AreTaken, Begins, Enters, GathersArguments, Passes};
-ghost use Rattle.no_machine.specs.Held.{IsKept, program_in, state_in};
-ghost use Rattle.no_machine.specs.Outcomes.{value_of};
+ghost use Rattle.std.specs.Prelude.{◌≡◌, ◌+◌, ◌<◌, ◌≤◌, ◌^◌, ℕ, Some, drop, length, map, slice_get, slice_range, slice_set, take};
+ghost use Rattle.no_code.specs.declared.code.Argument.{Argument};
+ghost use Rattle.no_code.specs.declared.code.Home.{Home};
+ghost use Rattle.no_machine.specs.Slots.{IsSlotIn};
+ghost use Rattle.no_machine.specs.Calling.{Called, GoesBack, IsHomeAt, IsReadyCall, IsReadyReturn, argument_in, given_at, passed_to};
 
-use crate::frame::Frame;
-use crate::state::{Acted, Core, Outcome, put_result};
-use no_ir::{Function, List, NoMemory, Operand, Role, Trap, Ty};
-use no_layout::{Memory, STACK_START};
-use no_module::{Scalar, agree, same_result};
-use no_semantics::Sound;
-use no_verify_types::direct;
-use std::alloc::Global;
-use std::mem;
-
-/// Where the first function stands.
-pub(crate) const FUNCTIONS: u64 = 0xF000_0000;
+use crate::frame::Saved;
+use crate::slots::read;
+use crate::turn::{Stop, Turn};
+use no_code::{Argument, Code, Home};
+use no_ir::Trap;
+use no_layout::STACK_START;
 
 /// By how much a call lowers the stack pointer.
-pub(crate) const CALL_ROOM: u32 = 16;
+const CALL_ROOM: u32 = 16;
 
-/// What reading the arguments of a call gave.
-#[derive(Debug, Drop)]
-pub(crate) enum Arguments {
-    Read(List<u64>),
-    /// One of them has no number.
-    Unread,
-    NoMemory,
-}
+/// The most registers that a frame may have, and one more.
+const MANY: u32 = 0x8000_0000;
 
-/// Whether an argument has the type of a parameter.
-fn is_passed(arg: &(Ty, Operand), param: &(u32, Ty)) -> bool
-    ensures { result ≡ is_passed arg.now param.now }
+/// Writes a number into a slot, where it is one of the window.
+#[inline(always)]
+fn write(free: &mut [u64], slot: u32, n: u64)
+    ensures { free.new ≡ slice_set free.old slot n }
 {
-    agree(Scalar::of(&arg.0), Scalar::of(&param.1))
+    if (slot as usize) < free.len() {
+        free[slot as usize] = n;
+    }
 }
 
-/// Whether there are as many arguments as parameters, each of its type.
-#[tactic(auto, using(crate::proofs::Passing::none_left))]
-fn are_passed(args: &[(Ty, Operand)], params: &[(u32, Ty)]) -> bool
-    ensures { result ≡ are_passed args.now params.now }
+/// Gives parameters the numbers of arguments.
+#[inline(always)]
+fn pass(window: &[u64], constants: &[u64], free: &mut [u64], args: &[Argument], params: &[Argument])
+    requires each { (k : ℕ) → (a : Argument) → slice_get args.now k ≡ Some a → IsSlotIn window.now constants.now a.slot }
+    ensures { free.new ≡ passed_to params.now (map (argument_in window.now constants.now) args.now) free.old }
 {
-    let mut rest = params;
-    for arg in args {
-        match rest {
-            [param, more @ ..] if is_passed(arg, param) => rest = more,
-            _ => return false,
+    for (k, arg) in args.iter().enumerate() {
+        if k >= params.len() {
+            return;
         }
+        let n = read(window, constants, arg.slot);
+        write(free, params[k].slot, n);
     }
-    rest.is_empty()
 }
 
-/// Whether a call is one of the function's type.
-fn has_type(t: &Ty, args: &[(Ty, Operand)], function: &Function) -> bool
-    ensures { result ≡ has_type t.now args.now function.now }
+/// Gives parameters the numbers of arguments, in a window above the caller's.
+#[inline(always)]
+fn enter(
+    slots: &mut [u64],
+    base: usize,
+    above: usize,
+    constants: &[u64],
+    args: &[Argument],
+    params: &[Argument],
+)
+    requires low { base ≤ above }
+    requires high { above ≤ length slots.old }
+    requires each { (k : ℕ) → (a : Argument) → slice_get args.now k ≡ Some a → IsSlotIn (drop base (take above slots.old)) constants.now a.slot }
+    ensures below { take above slots.new ≡ take above slots.old }
+    ensures passed { drop above slots.new ≡ passed_to params.now (map (argument_in (drop base (take above slots.old)) constants.now) args.now) (drop above slots.old) }
 {
-    same_result(t, &function.result) && are_passed(args, function.params.as_slice())
+    let (caller, free) = slots.split_at_mut(above);
+    pass(&caller[base..], constants, free, args, params);
 }
 
-/// The number of the function at an address.
-fn function_number(at: u64) -> Option<u64>
-    ensures { result ≡ function_number at }
+/// The home of the function of a cell.
+#[inline(always)]
+fn own_home(code: &Code, at: usize) -> Home
+    requires { (home : Home) × IsHomeAt code.now at home }
+    ensures { IsHomeAt code.now at result }
 {
-    if at < FUNCTIONS {
-        return None;
-    }
-    if (at - FUNCTIONS).is_multiple_of(16) {
-        Some((at - FUNCTIONS) / 16)
-    } else {
-        None
-    }
+    let place = code.places.as_slice()[at];
+    code.homes.as_slice()[place.function as usize]
 }
 
-/// The flag of this number, and false where there is none.
-fn flag(flags: &[bool], k: u64) -> bool
-    ensures { result ≡ slice_index_or flags.now k false }
+/// The home of a function.
+#[inline(always)]
+fn home_of(code: &Code, f: u32) -> Home
+    requires { f < length code.now.homes }
+    ensures { slice_get code.now.homes f ≡ Some result }
 {
-    flags.get(k as usize).copied().unwrap_or(false)
+    code.homes.as_slice()[f as usize]
 }
 
-/// As many registers that nothing was assigned to.
-pub(crate) fn unassigned(alloc: Global, count: usize) -> Result<List<Option<u64>>, NoMemory>
-    ensures { IfOk result (λ registers. registers ≡ replicate count None) }
+/// A range of the table of arguments and parameters.
+#[inline(always)]
+pub(crate) fn arguments(code: &Code, from: u32, to: u32) -> &[Argument]
+    requires ordered { from ≤ to }
+    requires within { to ≤ length code.now.arguments }
+    ensures { result.now ≡ slice_range code.now.arguments from to }
 {
-    Ok(List::from_vec(vec![in alloc; None; count]?))
+    &code.arguments.as_slice()[from as usize..to as usize]
 }
 
-/// Each parameter gets its argument. Whether there were as many.
-#[tactic(auto, using(crate::proofs::Passing::too_few))]
-fn pass(registers: &mut List<Option<u64>>, params: &[(u32, Ty)], args: &[u64]) -> bool
-    ensures { Passes result (passed params.now args.now registers.old) registers.new }
+/// Begins a call of function f.
+#[inline(always)]
+pub(crate) fn call(
+    code: &Code,
+    constants: &[u64],
+    declared: &[bool],
+    slots: &mut [u64],
+    frames: &mut Vec<Saved>,
+    sp: &mut u32,
+    at: usize,
+    base: usize,
+    into: u32,
+    f: u32,
+    from: u32,
+    to: u32,
+) -> Turn
+    requires same { constants.now ≡ code.now.constants }
+    requires inside { base ≤ length slots.old }
+    requires next { at + 1 < 2 ^ 64 }
+    requires ready { IsReadyCall code.now declared.now (drop base slots.old) at f from to }
+    ensures { (r : IsReadyCall code.now declared.now (drop base slots.old) at f from to) → Called result code.now r.outside r.home r.callee at base into from to slots.old slots.new frames.old.items frames.new.items sp.old sp.new }
 {
-    let mut rest = args;
-    for param in params {
-        match rest {
-            [n, more @ ..] => {
-                put_result(registers, Some(param.0), *n);
-                rest = more;
-            }
-            [] => return false,
-        }
+    if declared[f as usize] {
+        return Turn::Halt(Stop::Outside);
     }
-    rest.is_empty()
+    if *sp < STACK_START + CALL_ROOM {
+        return Turn::Halt(Stop::Trapped(Trap::StackOverflow));
+    }
+    let home = own_home(code, at);
+    let callee = home_of(code, f);
+    let above = base + home.registers as usize + 1;
+    if callee.registers >= MANY {
+        return Turn::Halt(Stop::NoMemory);
+    }
+    if slots.len() - above <= callee.registers as usize {
+        return Turn::Halt(Stop::Grow);
+    }
+    let saved = Saved {
+        next: at + 1,
+        base,
+        into,
+        sp: *sp,
+    };
+    if frames.push(saved).is_err() {
+        return Turn::Halt(Stop::NoMemory);
+    }
+    *sp -= CALL_ROOM;
+    let args = arguments(code, from, to);
+    let params = arguments(code, callee.from, callee.to);
+    enter(slots, base, above, constants, args, params);
+    Turn::On(callee.start as usize, above)
 }
 
-impl<M: Memory> Core<M> {
-    /// The numbers of the arguments of a call.
-    #[tactic(auto, unfolding(no_semantics::specs::Calls::arguments_of))]
-    pub(crate) fn arguments(&self, sound: &Sound, args: &[(Ty, Operand)]) -> Arguments
-        requires { args_fit sound.now.«module» sound.now.layout sound.now.sizes args.now ≡ true }
-        ensures { GathersArguments result (arguments_of (program_in M.regions sound.now self.now) self.now.frame.registers args.now) }
-    {
-        let Ok(mut numbers) = Vec::with_capacity(self.alloc, args.len()) else {
-            return Arguments::NoMemory;
-        };
-        for arg in args {
-            match self.typed(sound, &arg.0, &arg.1) {
-                Some(n) => {
-                    if numbers.push(n).is_err() {
-                        return Arguments::NoMemory;
-                    }
-                }
-                None => return Arguments::Unread,
-            }
-        }
-        Arguments::Read(List::from_vec(numbers))
+/// Writes a result, if there is one.
+#[inline(always)]
+pub(crate) fn give(slots: &mut [u64], place: usize, value: Option<u64>)
+    requires { place < length slots.old }
+    ensures { slots.new ≡ given_at value place slots.old }
+{
+    if let Some(n) = value {
+        slots[place] = n;
     }
+}
 
-    /// Whether function k may be called through a pointer.
-    fn is_callable(&self, sound: &Sound, k: u64, function: &Function) -> bool
-        requires taken { AreTaken sound.now.«module» self.now.taken }
-        requires within { k < length sound.now.«module».functions }
-        ensures { result ≡ is_callable sound.now.«module» sound.now.role k function.now }
-    {
-        match sound.role() {
-            Role::Source => flag(self.taken.as_slice(), k),
-            Role::Part => function.device_address.is_some(),
-        }
-    }
-
-    /// The number of the function at a number, where it may be called so through a pointer.
-    fn pointed(&self, sound: &Sound, t: &Ty, args: &[(Ty, Operand)], k: u64) -> Outcome
-        requires { AreTaken sound.now.«module» self.now.taken }
-        ensures { value_of result ≡ pointed (program_in M.regions sound.now self.now) t.now args.now k (slice_get sound.now.«module».functions k) }
-    {
-        match sound.module().functions.get(k as usize) {
-            Some(function) => {
-                if self.is_callable(sound, k, function) && has_type(t, args, function) {
-                    Outcome::Number(k)
-                } else {
-                    Outcome::Traps(Trap::BadFunction)
-                }
-            }
-            None => Outcome::Traps(Trap::BadFunction),
-        }
-    }
-
-    /// The number of the function that is called.
-    #[tactic(auto, unfolding(no_semantics::specs::Calls::callee_value))]
-    pub(crate) fn callee(
-        &self,
-        sound: &Sound,
-        t: &Ty,
-        callee: &Operand,
-        args: &[(Ty, Operand)],
-    ) -> Outcome
-        requires taken { AreTaken sound.now.«module» self.now.taken }
-        requires operand { operand_fits sound.now.«module» sound.now.layout sound.now.sizes callee.now ≡ true }
-        ensures { value_of result ≡ callee_value (program_in M.regions sound.now self.now) self.now.frame.registers t.now callee.now args.now }
-    {
-        if let Some(k) = direct(callee) {
-            return Outcome::Number(u64::from(k));
-        }
-        let Some(at) = self.pointer(sound, callee) else {
-            return Outcome::Nothing;
-        };
-        match function_number(at) {
-            Some(k) => self.pointed(sound, t, args, k),
-            None => Outcome::Traps(Trap::BadFunction),
-        }
-    }
-
-    /// A frame begins, and the one that runs waits for it. The stack pointer falls by 16.
-    fn begin(&mut self, frame: Frame) -> Acted
-        requires { 16 ≤ self.old.sp }
-        ensures { Begins result frame self.old self.new }
-    {
-        let caller = mem::replace(&mut self.frame, frame);
-        match self.callers.push(caller) {
-            Ok(()) => {
-                self.sp -= CALL_ROOM;
-                Acted::Went(1)
-            }
-            Err(refused) => {
-                self.frame = refused.value;
-                Acted::NoMemory
-            }
-        }
-    }
-
-    /// A defined function begins with these arguments, unless the stack pointer would fall below the stack.
-    pub(crate) fn enter(&mut self, k: u64, function: &Function, args: &[u64]) -> Acted
-        ensures moves { (byte : ℕ → ℕ) → (input : List ℕ) → Enters k args.now (entered k function.now args.now (state_in self.old byte input)) result (state_in self.old byte input) (state_in self.new byte input) }
-        ensures kept { IsKept M.regions M.held self.old self.new }
-        ensures bytes { M.byte self.new.mem ≡ M.byte self.old.mem }
-    {
-        if self.sp < STACK_START + CALL_ROOM {
-            return Acted::Trapped(Trap::StackOverflow);
-        }
-        let Ok(mut registers) = unassigned(self.alloc, function.registers.len()) else {
-            return Acted::NoMemory;
-        };
-        if !pass(&mut registers, function.params.as_slice(), args) {
-            return Acted::Stuck;
-        }
-        let saved = self.sp;
-        self.begin(Frame {
-            function: k,
-            block: 0,
-            at: 0,
-            registers,
-            saved,
-        })
-    }
+/// Goes back to the newest caller with a value, or with none.
+#[inline(always)]
+pub(crate) fn back(
+    slots: &mut [u64],
+    frames: &mut Vec<Saved>,
+    sp: &mut u32,
+    value: Option<u64>,
+) -> Turn
+    requires { IsReadyReturn slots.old frames.old.items }
+    ensures { GoesBack result value slots.old slots.new frames.old.items frames.new.items sp.old sp.new }
+{
+    let Some(w) = frames.pop() else {
+        return Turn::Halt(Stop::Left(value));
+    };
+    give(slots, w.base + w.into as usize, value);
+    *sp = w.sp;
+    Turn::On(w.next, w.base)
 }

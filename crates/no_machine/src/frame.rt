@@ -1,12 +1,9 @@
-use no_ir::List;
-
-/// A call of a function that goes on: the place of its next instruction, what each of its registers holds since it
-/// was assigned, and the stack pointer that comes back with its return.
-#[derive(Debug, Drop)]
-pub(crate) struct Frame {
-    pub function: u64,
-    pub block: u64,
-    pub at: u64,
-    pub registers: List<Option<u64>>,
-    pub saved: u32,
+/// What is kept of a call that has not returned: the cell behind the call, the base of its frame's window, the slot of the
+/// call's result, and the stack pointer that comes back.
+#[derive(Clone, Copy)]
+pub(crate) struct Saved {
+    pub next: usize,
+    pub base: usize,
+    pub into: u32,
+    pub sp: u32,
 }

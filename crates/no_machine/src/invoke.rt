@@ -1,87 +1,127 @@
-ghost use Rattle.std.specs.Prelude.{◌≡◌, ◌+◌, ◌<◌, ◌^◌, ℕ, List, [], ◌++◌, slice_get, true};
-ghost use Rattle.std.specs.Option.{option_copied};
-ghost use Rattle.no_layout.specs.Memory.{Agrees};
-ghost use Rattle.no_semantics.specs.Calls.{invoked, row_call};
-ghost use Rattle.no_semantics.specs.Rows.{affordable};
-ghost use Rattle.no_semantics.specs.Sound.{args_fit, operand_fits};
-ghost use Rattle.no_machine.specs.Acted.{Does};
-ghost use Rattle.no_machine.specs.Called.{AreTaken};
-ghost use Rattle.no_machine.specs.Held.{IsKept, program_in, state_in};
+ghost use Rattle.std.specs.Prelude.{◌≡◌, ◌+◌, ◌<◌, ◌≤◌, ℕ, Bool, Option, Some, drop, length, slice_get, slice_range};
+ghost use Rattle.no_code.specs.declared.code.Argument.{Argument};
+ghost use Rattle.no_module.specs.declared.external.External.{External};
+ghost use Rattle.no_machine.specs.Slots.{IsSlotIn};
+ghost use Rattle.no_machine.specs.Outside.{DoesExternal, Invoked, IsReadyInvoke, out_of_turn};
 
-use crate::calls::Arguments;
-use crate::state::{Acted, Core, Outcome};
-use no_ir::{Function, Operand, Ty};
+use crate::calls::call;
+use crate::frame::Saved;
+use crate::out::Out;
+use crate::serve::call_library;
+use crate::turn::{Stop, Turn};
+use no_code::Code;
+use no_heap::Heap;
 use no_layout::Memory;
 use no_lib::Env;
-use no_module::{external_of, is_declared};
-use no_semantics::Sound;
+use no_module::External;
 
-/// The function of a number.
-fn function_of(sound: &Sound, k: u64) -> Option<&Function>
-    ensures { option_copied result ≡ slice_get sound.now.«module».functions k }
+/// What comes of a call of a defined function.
+fn out_of_turn(turn: Turn) -> Out
+    ensures { result ≡ out_of_turn turn }
 {
-    sound.module().functions.get(k as usize)
+    match turn {
+        Turn::On(at, base) => Out::On(at, base, 1),
+        Turn::Halt(Stop::Grow) => Out::Grow,
+        Turn::Halt(Stop::Trapped(trap)) => Out::Trapped(trap),
+        Turn::Halt(Stop::Outside) => Out::Foreign,
+        Turn::Halt(_) => Out::NoMemory,
+    }
 }
 
-impl<M: Memory> Core<M> {
-    /// A call of a function, whose number is k: a declared one is an external, and a defined one begins.
-    fn invoke(
-        &mut self,
-        sound: &Sound,
-        into: Option<u32>,
-        k: u64,
-        function: &Function,
-        numbers: &[u64],
-        left: u64,
-        env: &mut Env,
-    ) -> Acted
-        requires room { self.old.frame.at + 1 < 2 ^ 64 }
-        requires some { 0 < left }
-        ensures does { (whole : ℕ → ℕ) → (more : List ℕ) → Agrees (M.held self.old.mem) (M.byte self.old.mem) whole → (env.old.ended ≡ true → more ≡ []) → Does M.byte M.held (affordable left (invoked (program_in M.regions sound.now self.old) into k numbers.now (state_in self.old whole (env.old.input ++ more)) function.now)) result self.old self.new env.old env.new more }
-        ensures kept { IsKept M.regions M.held self.old self.new }
-    {
-        if is_declared(function) {
-            match external_of(sound.role(), function) {
-                Some(which) => self.call_external(sound, into, which, numbers, left, env),
-                None => Acted::Stuck,
-            }
-        } else {
-            self.enter(k, function, numbers)
-        }
-    }
+/// Whether function f is declared.
+fn is_declared(declared: &[bool], f: u32) -> bool
+    requires { f < length declared.now }
+    ensures { slice_get declared.now f ≡ Some result }
+{
+    declared[f as usize]
+}
 
-    /// "call Instruction"
-    pub(crate) fn call(
-        &mut self,
-        sound: &Sound,
-        into: Option<u32>,
-        t: &Ty,
-        callee: &Operand,
-        args: &[(Ty, Operand)],
-        left: u64,
-        env: &mut Env,
-    ) -> Acted
-        requires room { self.old.frame.at + 1 < 2 ^ 64 }
-        requires some { 0 < left }
-        requires taken { AreTaken sound.now.«module» self.old.taken }
-        requires operand { operand_fits sound.now.«module» sound.now.layout sound.now.sizes callee.now ≡ true }
-        requires args { args_fit sound.now.«module» sound.now.layout sound.now.sizes args.now ≡ true }
-        ensures does { (whole : ℕ → ℕ) → (more : List ℕ) → Agrees (M.held self.old.mem) (M.byte self.old.mem) whole → (env.old.ended ≡ true → more ≡ []) → Does M.byte M.held (affordable left (row_call (program_in M.regions sound.now self.old) into t.now callee.now args.now (state_in self.old whole (env.old.input ++ more)))) result self.old self.new env.old env.new more }
-        ensures kept { IsKept M.regions M.held self.old self.new }
-    {
-        let k = match self.callee(sound, t, callee, args) {
-            Outcome::Number(k) => k,
-            Outcome::Traps(trap) => return Acted::Trapped(trap),
-            Outcome::Nothing => return Acted::Stuck,
-        };
-        let numbers = match self.arguments(sound, args) {
-            Arguments::Read(numbers) => numbers,
-            Arguments::Unread => return Acted::Stuck,
-            Arguments::NoMemory => return Acted::NoMemory,
-        };
-        match function_of(sound, k) {
-            Some(function) => self.invoke(sound, into, k, function, numbers.as_slice(), left, env),
-            None => Acted::Stuck,
-        }
+/// Which external function f is, if it is one.
+fn external_at(externals: &[Option<External>], f: u32) -> Option<External>
+    requires { f < length externals.now }
+    ensures { slice_get externals.now f ≡ Some result }
+{
+    externals[f as usize]
+}
+
+/// Calls an external.
+fn call_external<M: Memory>(
+    code: &Code,
+    constants: &[u64],
+    declared: &[bool],
+    externals: &[Option<External>],
+    entry: Option<External>,
+    slots: &mut [u64],
+    frames: &mut Vec<Saved>,
+    numbers: &mut Vec<u64>,
+    sp: &mut u32,
+    mem: &mut M,
+    heap: &mut Heap,
+    env: &mut Env,
+    at: usize,
+    base: usize,
+    into: u32,
+    f: u32,
+    from: u32,
+    to: u32,
+    left: u64,
+) -> Out
+    requires same { constants.now ≡ code.now.constants }
+    requires ready { IsReadyInvoke code.now declared.now externals.now slots.old at base into f from to }
+    requires each { (k : ℕ) → (a : Argument) → slice_get (slice_range code.now.arguments from to) k ≡ Some a → IsSlotIn (drop base slots.old) code.now.constants a.slot }
+    ensures does { DoesExternal entry (M.regions mem.old) (M.regions mem.new) (M.held mem.old) (M.held mem.new) (M.own mem.old) (M.own mem.new) code.now left at base into from to (record { slots = slots.old; new = slots.new; frames = frames.old.items; now = frames.new.items; sp = sp.old; after = sp.new }) (record { held = M.held mem.old; byte = M.byte mem.old; after = M.byte mem.new; heap = heap.old; heap_after = heap.new; env = env.old; env_after = env.new }) result }
+    ensures regions { M.regions mem.new ≡ M.regions mem.old }
+    ensures held { M.held mem.new ≡ M.held mem.old }
+    ensures ended { env.new.ended ≡ env.old.ended }
+{
+    match entry {
+        None => Out::Stuck,
+        Some(External::Alloca) => Out::Foreign,
+        Some(External::Map) => Out::Foreign,
+        Some(which) => call_library(
+            code, constants, which, slots, at, base, into, from, to, numbers, left, mem, heap, env,
+        ),
     }
+}
+
+/// Calls function f, which is defined or declared.
+pub(crate) fn invoke<M: Memory>(
+    code: &Code,
+    constants: &[u64],
+    declared: &[bool],
+    externals: &[Option<External>],
+    slots: &mut [u64],
+    frames: &mut Vec<Saved>,
+    numbers: &mut Vec<u64>,
+    sp: &mut u32,
+    mem: &mut M,
+    heap: &mut Heap,
+    env: &mut Env,
+    at: usize,
+    base: usize,
+    into: u32,
+    f: u32,
+    from: u32,
+    to: u32,
+    left: u64,
+) -> Out
+    requires same { constants.now ≡ code.now.constants }
+    requires ready { IsReadyInvoke code.now declared.now externals.now slots.old at base into f from to }
+    requires each { (k : ℕ) → (a : Argument) → slice_get (slice_range code.now.arguments from to) k ≡ Some a → IsSlotIn (drop base slots.old) code.now.constants a.slot }
+    ensures invoked { (outside : Bool) → slice_get declared.now f ≡ Some outside → (entry : Option External) → slice_get externals.now f ≡ Some entry → Invoked outside entry (M.regions mem.old) (M.regions mem.new) (M.held mem.old) (M.held mem.new) (M.own mem.old) (M.own mem.new) code.now declared.now left at base into f from to (record { slots = slots.old; new = slots.new; frames = frames.old.items; now = frames.new.items; sp = sp.old; after = sp.new }) (record { held = M.held mem.old; byte = M.byte mem.old; after = M.byte mem.new; heap = heap.old; heap_after = heap.new; env = env.old; env_after = env.new }) result }
+    ensures regions { M.regions mem.new ≡ M.regions mem.old }
+    ensures held { M.held mem.new ≡ M.held mem.old }
+    ensures ended { env.new.ended ≡ env.old.ended }
+{
+    if is_declared(declared, f) {
+        let entry = external_at(externals, f);
+        return call_external(
+            code, constants, declared, externals, entry, slots, frames, numbers, sp, mem, heap,
+            env, at, base, into, f, from, to, left,
+        );
+    }
+    let turn = call(
+        code, constants, declared, slots, frames, sp, at, base, into, f, from, to,
+    );
+    out_of_turn(turn)
 }

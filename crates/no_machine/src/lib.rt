@@ -1,25 +1,32 @@
-//! The machine: it runs an accepted module over a memory, an instruction at a time.
+//! The machine over decoded cells: it runs a program whose instructions were decoded once.
 #![tactic(auto)]
 
 mod access;
 mod act;
-mod boot;
+mod begin;
 mod calls;
+mod did;
 mod edges;
-mod externals;
+mod facts;
 mod frame;
 mod invoke;
-mod labels;
 mod machine;
-mod memory;
-mod next;
-mod operands;
+mod out;
+mod outside;
 mod paths;
-mod returns;
-mod run;
+mod pointer;
+mod serve;
+mod slots;
+mod spin;
 mod state;
-mod steps;
+mod step;
+mod tables;
+mod turn;
 mod values;
 
-pub use machine::{Machine, StepAnswer};
-pub use steps::Steps;
+pub use facts::Facts;
+pub use machine::{Machine, Ran};
+pub use out::Out;
+pub use state::Core;
+pub use tables::{declared_of, externals_of};
+pub use turn::Stop;

@@ -1,151 +1,87 @@
-ghost use Rattle.std.specs.Prelude.{◌≡◌, ◌≢◌, ◌+◌, ◌*◌, ◌<◌, ◌≤◌, ◌%◌, ◌^◌, None, map, is_some, true, IsTrue};
-ghost use Rattle.std.specs.List.{list_all};
-ghost use Rattle.no_layout.specs.Sizes.{type_stride};
-ghost use Rattle.no_semantics.specs.Indices.{inner_offset, path_offset};
-ghost use Rattle.no_semantics.specs.Registers.{all_given, index_of};
-ghost use Rattle.no_semantics.specs.Results.{gep_value};
-ghost use Rattle.no_semantics.specs.Sound.{index_fits, indices_fit, operand_fits, type_fits};
+ghost use Rattle.std.specs.Prelude.{◌≡◌, ◌+◌, ◌*◌, ◌%◌, ◌^◌, ◌<◌, ◌≤◌, ◌∷◌, ℕ, List, Some, slice_get, slice_range};
+ghost use Rattle.no_code.specs.declared.code.Step.{Step};
 ghost use Rattle.no_semantics.specs.Values.{extended};
-ghost use Rattle.no_machine.specs.Held.{program_in};
-ghost use Rattle.no_machine.specs.Outcomes.{index_or_zero, value_of};
+ghost use Rattle.no_machine.specs.Slots.{IsNumber, value_in};
+ghost use Rattle.no_machine.specs.Did.{IsReadyGep, IsReadyStep, Wrote, leads};
 
-use crate::state::{Core, Outcome};
+use crate::did::Did;
+use crate::slots::{put, read};
+use no_code::{Code, Step};
 use no_eval::cast;
-use no_ir::{CastOp, Operand, Ty};
-use no_layout::Memory;
-use no_semantics::{Sound, index_offset, narrowed, part, pointer_width, resolved, with_first};
+use no_ir::CastOp;
+use no_semantics::narrowed;
 
-/// A number of w bits at another width, with its sign where that is more.
-fn resized(w: u8, to: u8, n: u64) -> u64
+/// A number of w bits at the width of a pointer, with its sign where that is more.
+#[inline(always)]
+fn extended(w: u8, pointer: u8, n: u64) -> u64
     requires some { 0 < w }
     requires most { w ≤ 64 }
-    requires some_to { 0 < to }
-    requires most_to { to ≤ 64 }
-    requires within { n < 2 ^ w }
-    ensures value { result ≡ extended w to n }
+    requires some_to { 0 < pointer }
+    requires most_to { pointer ≤ 64 }
+    requires fits { n < 2 ^ w }
+    ensures { result ≡ extended w pointer n }
 {
-    if w < to {
-        cast(CastOp::SExt, w, to, n)
+    if w < pointer {
+        cast(CastOp::SExt, w, pointer, n)
     } else {
-        narrowed(to, n)
+        narrowed(pointer, n)
     }
 }
 
-/// How far two values of a type are apart, in bytes.
-pub(crate) fn stride_of(sound: &Sound, t: &Ty) -> u64
-    requires { type_fits sound.now.layout sound.now.sizes t.now ≡ true }
-    ensures { result ≡ type_stride sound.now.layout sound.now.sizes t.now }
+/// An address moved by a step.
+#[inline(always)]
+fn stepped(one: Step, pointer: u8, window: &[u64], constants: &[u64], at: u64) -> u64
+    requires some { 0 < pointer }
+    requires most { pointer ≤ 64 }
+    requires ready { IsReadyStep window.now constants.now one }
+    ensures { (rest : ℕ) → (more : List Step) → rest ≡ leads window.now constants.now pointer more → (result + rest) % 2 ^ 64 ≡ (at + leads window.now constants.now pointer (one ∷ more)) % 2 ^ 64 }
 {
-    sound.layout().stride(sound.sizes(), t)
-}
-
-impl<M: Memory> Core<M> {
-    /// An index as a number of the pointer's width.
-    fn index(&self, sound: &Sound, index: &(u8, Operand)) -> Option<u64>
-        requires { index_fits sound.now.«module» sound.now.layout sound.now.sizes index.now ≡ true }
-        ensures { result ≡ index_of (program_in M.regions sound.now self.now) self.now.frame.registers index.now }
-    {
-        match self.operand(sound, index.0, &index.1) {
-            Some(n) => Some(resized(index.0, pointer_width(sound), n)),
-            None => None,
+    match one {
+        Step::Index(w, x, stride) => {
+            let index = extended(w, pointer, read(window, constants, x));
+            at.wrapping_add(index.wrapping_mul(u64::from(stride)))
         }
-    }
-
-    /// An index that has a number.
-    fn index_number(&self, sound: &Sound, index: &(u8, Operand)) -> u64
-        requires { index_fits sound.now.«module» sound.now.layout sound.now.sizes index.now ≡ true }
-        ensures { result ≡ index_or_zero (program_in M.regions sound.now self.now) self.now.frame.registers index.now }
-    {
-        match self.index(sound, index) {
-            Some(n) => n,
-            None => 0,
-        }
-    }
-
-    /// Whether each index has a number.
-    fn are_known(&self, sound: &Sound, indices: &[(u8, Operand)]) -> bool
-        requires { list_all (index_fits sound.now.«module» sound.now.layout sound.now.sizes) indices.now ≡ true }
-        ensures { result ≡ list_all (λ index. is_some (index_of (program_in M.regions sound.now self.now) self.now.frame.registers index)) indices.now }
-    {
-        for index in indices {
-            if self.index(sound, index).is_none() {
-                return false;
-            }
-        }
-        true
-    }
-
-    /// How far the indices after the first lead, modulo 2^64.
-    fn inner(&self, sound: &Sound, base: &Ty, indices: &[(u8, Operand)]) -> u64
-        requires fits { type_fits sound.now.layout sound.now.sizes base.now ≡ true }
-        requires indices { list_all (index_fits sound.now.«module» sound.now.layout sound.now.sizes) indices.now ≡ true }
-        ensures { result ≡ inner_offset sound.now.layout sound.now.sizes sound.now.«module».types base.now (map (index_or_zero (program_in M.regions sound.now self.now) self.now.frame.registers) indices.now) % 2 ^ 64 }
-    {
-        let program = sound.module();
-        let mut at = base;
-        let mut total: u64 = 0;
-        for index in indices {
-            let t = resolved(program, at);
-            let i = self.index_number(sound, index);
-            match part(t, i) {
-                None => return total,
-                Some(next) => {
-                    total = total.wrapping_add(index_offset(sound.layout(), sound.sizes(), t, i));
-                    at = next;
-                }
-            }
-        }
-        total
-    }
-
-    /// How far the indices lead, modulo 2^64.
-    #[tactic(auto, using(no_semantics::proofs::Parts::known_sum, crate::proofs::Offsets::all_fit))]
-    fn offset(&self, sound: &Sound, t: &Ty, indices: &[(u8, Operand)]) -> u64
-        requires fits { type_fits sound.now.layout sound.now.sizes t.now ≡ true }
-        requires indices { indices_fit sound.now.«module» sound.now.layout sound.now.sizes t.now indices.now ≡ true }
-        ensures { result ≡ path_offset sound.now.layout sound.now.sizes sound.now.«module».types t.now (map (index_or_zero (program_in M.regions sound.now self.now) self.now.frame.registers) indices.now) % 2 ^ 64 }
-    {
-        match indices {
-            [] => 0,
-            [first, others @ ..] => with_first(
-                self.index_number(sound, first),
-                stride_of(sound, t),
-                self.inner(sound, t, others),
-            ),
-        }
-    }
-
-    /// Pointer arithmetic.
-    #[tactic(auto, using(crate::proofs::Offsets::sum_known, crate::proofs::Offsets::each_fits, crate::proofs::Offsets::known_all, crate::proofs::Offsets::unknown_one), unfolding(no_semantics::specs::Results::gep_value))]
-    pub(crate) fn path(
-        &self,
-        sound: &Sound,
-        t: &Ty,
-        a: &Operand,
-        indices: &[(u8, Operand)],
-    ) -> Outcome
-        requires fits { type_fits sound.now.layout sound.now.sizes t.now ≡ true }
-        requires operand { operand_fits sound.now.«module» sound.now.layout sound.now.sizes a.now ≡ true }
-        requires indices { indices_fit sound.now.«module» sound.now.layout sound.now.sizes t.now indices.now ≡ true }
-        ensures { value_of result ≡ gep_value (program_in M.regions sound.now self.now) self.now.frame.registers t.now a.now indices.now }
-    {
-        let Some(base) = self.pointer(sound, a) else {
-            return Outcome::Nothing;
-        };
-        if !self.are_known(sound, indices) {
-            return Outcome::Nothing;
-        }
-        let offset = self.offset(sound, t, indices);
-        Outcome::Number(sum(pointer_width(sound), base, offset))
+        Step::Field(offset) => at.wrapping_add(u64::from(offset)),
     }
 }
 
-/// The sum modulo 2^w.
-#[tactic(auto, using(crate::proofs::Offsets::narrowed_twice))]
-fn sum(w: u8, a: u64, b: u64) -> u64
-    requires some { 0 < w }
-    requires most { w ≤ 64 }
-    ensures { result ≡ (a + b) % 2 ^ w }
+/// An address moved by some steps, modulo 2^64.
+#[inline(always)]
+fn walk(steps: &[Step], pointer: u8, window: &[u64], constants: &[u64], base: u64) -> u64
+    requires some { 0 < pointer }
+    requires most { pointer ≤ 64 }
+    requires ready { (k : ℕ) → (one : Step) → slice_get steps.now k ≡ Some one → IsReadyStep window.now constants.now one }
+    ensures { result ≡ (base + leads window.now constants.now pointer steps.now) % 2 ^ 64 }
 {
-    narrowed(w, a.wrapping_add(b))
+    let mut at = base;
+    for one in steps {
+        at = stepped(*one, pointer, window, constants, at);
+    }
+    at
+}
+
+/// "getelementptr Instruction"
+#[inline(always)]
+pub(crate) fn address(
+    code: &Code,
+    pointer: u8,
+    window: &mut [u64],
+    constants: &[u64],
+    into: u32,
+    x: u32,
+    from: u32,
+    to: u32,
+) -> Did
+    requires { IsReadyGep window.old constants.now code.now pointer into x from to }
+    ensures { Wrote ((value_in window.old constants.now x + leads window.old constants.now pointer (slice_range code.now.steps from to)) % 2 ^ pointer) into window.old window.new result }
+{
+    let steps = &code.steps.as_slice()[from as usize..to as usize];
+    let at = walk(
+        steps,
+        pointer,
+        window,
+        constants,
+        read(window, constants, x),
+    );
+    put(window, into, narrowed(pointer, at))
 }

@@ -1,110 +1,116 @@
-ghost use Rattle.std.specs.Prelude.{◌≡◌, ◌≢◌, ◌+◌, ◌<◌, ◌^◌, ℕ, List};
-ghost use Rattle.no_semantics.specs.Rows.{computed};
-ghost use Rattle.no_semantics.specs.States.{put_into};
-ghost use Rattle.no_machine.specs.Acted.{Moves};
-ghost use Rattle.no_machine.specs.Held.{IsKept, assigned_frame, moved_frame, state_in};
-ghost use Rattle.no_machine.specs.Outcomes.{value_of};
+ghost use Rattle.std.specs.Prelude.{◌≡◌, ◌⊎◌, ◌<◌, ◌≤◌, ◌++◌, [], ℕ, List, true};
+ghost use Rattle.no_semantics.specs.Acting.{row};
+ghost use Rattle.no_semantics.specs.Rows.{affordable};
+ghost use Rattle.no_taken.specs.Marked.{AreTaken};
+ghost use Rattle.no_machine.specs.Outside.{AreExternals, Outs, Placed};
+ghost use Rattle.no_semantics.specs.States.{State};
+ghost use Rattle.no_machine.specs.Turning.{AreFacts, HasSpun, IsHere, program_with};
 
-use crate::frame::Frame;
+use crate::facts::Facts;
+use crate::frame::Saved;
+use crate::out::Out;
+use crate::outside::outside;
+use crate::spin::{Stand, spin};
+use crate::turn::Stop;
 use no_heap::Heap;
-use no_ir::{List, Trap};
 use no_layout::Memory;
-use std::alloc::Global;
+use no_lib::Env;
+use no_module::External;
 
-/// What an instruction did.
-#[derive(Clone, Copy, Debug, PartialEq, Eq)]
-pub(crate) enum Acted {
-    /// It was done, at this cost.
-    Went(u64),
-    /// It ended the run, and changed nothing else.
-    Trapped(Trap),
-    /// It ended the run with this status, and changed nothing else.
-    Exited(u8),
-    /// Its cost is more than what is left of the budget. Nothing changed.
-    Over,
-    /// It was the return of the run's first frame, with this value. Nothing changed.
-    Left(Option<u64>),
-    /// It has no meaning, and nothing changed.
-    Stuck,
-    /// This page is absent, and nothing changed.
-    WantPage(u32),
-    /// It takes a byte of the input, of which none is left. Nothing changed.
-    WantInput,
-    /// Nothing changed.
-    NoMemory,
-}
-
-/// What an instruction gives as a value.
-#[derive(Clone, Copy, Debug, PartialEq, Eq)]
-pub(crate) enum Outcome {
-    Number(u64),
-    Traps(Trap),
-    /// An operand has no number.
-    Nothing,
-}
-
-/// The state of a run, and the addresses of the globals.
+/// What changes while a program runs: the slots of all frames, what is kept of callers, room for moves and for arguments, where
+/// the machine stands, the stack pointer, memory and heap.
 #[derive(Drop)]
-pub(crate) struct Core<M: Memory> {
-    /// The frame of the function that runs.
-    pub frame: Frame,
-    /// Those of its callers, the newest last. Each stands at its call.
-    pub callers: Vec<Frame>,
-    pub sp: u32,
-    pub mem: M,
-    pub heap: Heap,
-    pub addresses: List<u32>,
-    /// For each function of the module, whether its address is taken.
-    pub taken: List<bool>,
-    /// For each function, the numbers of the blocks of its labels.
-    pub labels: List<List<Option<u64>>>,
-    pub alloc: Global,
-}
-
-/// Puts a number into a register, if one is assigned.
-pub(crate) fn put_result(registers: &mut List<Option<u64>>, into: Option<u32>, n: u64)
-    ensures { registers.new ≡ put_into into n registers.old }
-{
-    if let Some(r) = into {
-        if (r as usize) < registers.len() {
-            registers.set(r as usize, Some(n));
-        }
-    }
+pub struct Core<M: Memory> {
+    pub(crate) slots: Vec<u64>,
+    pub(crate) frames: Vec<Saved>,
+    pub(crate) scratch: Vec<(u32, u64)>,
+    pub(crate) numbers: Vec<u64>,
+    pub(crate) at: usize,
+    pub(crate) base: usize,
+    pub(crate) sp: u32,
+    pub(crate) mem: M,
+    pub(crate) heap: Heap,
 }
 
 impl<M: Memory> Core<M> {
-    /// Goes on to the next instruction with a result.
-    pub(crate) fn assign(&mut self, into: Option<u32>, n: u64)
-        requires room { self.old.frame.at + 1 < 2 ^ 64 }
-        ensures { self.new ≡ record self.old { frame = assigned_frame into n self.old.frame } }
+    /// Does at most so many instructions, until one needs something from outside. How many were done.
+    pub fn go(&mut self, facts: Facts, limit: u64) -> (Stop, u64)
+        requires facts { AreFacts facts.sound.now facts.addresses.now facts.code.now facts.cells.now facts.constants.now facts.declared.now facts.big facts.pointer }
+        requires here { (s : State) × IsHere (program_with facts.sound.now facts.addresses.now (M.regions self.old.mem)) self.old.at self.old.base self.old.sp self.old.slots.items self.old.frames.items (M.held self.old.mem) (M.byte self.old.mem) s }
+        ensures spun { (s : State) → IsHere (program_with facts.entry.sound.now facts.entry.addresses.now (M.regions self.old.mem)) self.old.at self.old.base self.old.sp self.old.slots.items self.old.frames.items (M.held self.old.mem) (M.byte self.old.mem) s → HasSpun (program_with facts.entry.sound.now facts.entry.addresses.now (M.regions self.old.mem)) result.0 result.1 self.new.at self.new.base self.new.sp self.new.slots.items self.new.frames.items (M.held self.old.mem) (M.byte self.new.mem) s }
+        ensures most { result.1 ≤ limit }
+        ensures spent { result.0 ≡ Stop.Spent → result.1 ≡ limit }
+        ensures halted { (result.0 ≡ Stop.Spent) ⊎ (result.1 < limit) }
+        ensures heap { self.new.heap ≡ self.old.heap }
+        ensures regions { M.regions self.new.mem ≡ M.regions self.old.mem }
+        ensures held { M.held self.new.mem ≡ M.held self.old.mem }
     {
-        put_result(&mut self.frame.registers, into, n);
-        self.frame.at += 1;
+        let stand = Stand {
+            at: self.at,
+            base: self.base,
+            left: limit,
+        };
+        let (why, stand) = spin(
+            facts,
+            self.slots.as_mut_slice(),
+            &mut self.frames,
+            &mut self.scratch,
+            &mut self.sp,
+            &mut self.mem,
+            stand,
+        );
+        self.at = stand.at;
+        self.base = stand.base;
+        (why, limit - stand.left)
     }
 
-    /// Goes on to the next instruction.
-    pub(crate) fn advance(&mut self)
-        requires room { self.old.frame.at + 1 < 2 ^ 64 }
-        ensures { self.new ≡ record self.old { frame = moved_frame self.old.frame } }
+    /// Goes to where an instruction that was done leads.
+    fn place(&mut self, told: Out)
+        ensures placed { Placed told self.old.at self.old.base self.new.at self.new.base }
+        ensures same { self.new ≡ record self.old { at = self.new.at; base = self.new.base } }
     {
-        self.frame.at += 1;
-    }
-
-    /// A value becomes the result of an instruction.
-    pub(crate) fn finish(&mut self, into: Option<u32>, value: Outcome) -> Acted
-        requires room { self.old.frame.at + 1 < 2 ^ 64 }
-        ensures moves { (byte : ℕ → ℕ) → (input : List ℕ) → Moves (computed into (value_of value) (state_in self.old byte input)) result (state_in self.old byte input) (state_in self.new byte input) }
-        ensures kept { IsKept M.regions M.held self.old self.new }
-        ensures bytes { M.byte self.new.mem ≡ M.byte self.old.mem }
-        ensures enough { result ≢ Acted.NoMemory }
-    {
-        match value {
-            Outcome::Number(n) => {
-                self.assign(into, n);
-                Acted::Went(1)
-            }
-            Outcome::Traps(trap) => Acted::Trapped(trap),
-            Outcome::Nothing => Acted::Stuck,
+        if let Out::On(at, base, _) = told {
+            self.at = at;
+            self.base = base;
         }
+    }
+
+    /// Does the call of the cell at which it stands, within what is left of the budget.
+    pub fn call_out(
+        &mut self,
+        facts: Facts,
+        externals: &[Option<External>],
+        taken: &[bool],
+        left: u64,
+        env: &mut Env,
+    ) -> Out
+        requires facts { AreFacts facts.sound.now facts.addresses.now facts.code.now facts.cells.now facts.constants.now facts.declared.now facts.big facts.pointer }
+        requires externals { AreExternals facts.sound.now.«module» facts.sound.now.role externals.now }
+        requires taken { AreTaken facts.sound.now.«module» taken.now }
+        requires some { 0 < left }
+        requires here { (s : State) × IsHere (program_with facts.sound.now facts.addresses.now (M.regions self.old.mem)) self.old.at self.old.base self.old.sp self.old.slots.items self.old.frames.items (M.held self.old.mem) (M.byte self.old.mem) s }
+        ensures outs { (s : State) → (more : List ℕ) → IsHere (program_with facts.entry.sound.now facts.entry.addresses.now (M.regions self.old.mem)) self.old.at self.old.base self.old.sp self.old.slots.items self.old.frames.items (M.held self.old.mem) (M.byte self.old.mem) s → s.heap ≡ self.old.heap → s.input ≡ env.old.input ++ more → (env.old.ended ≡ true → more ≡ []) → Outs (program_with facts.entry.sound.now facts.entry.addresses.now (M.regions self.old.mem)) result self.old.at self.old.base self.new.sp self.new.slots.items self.new.frames.items (record { held = M.held self.old.mem; byte = M.byte self.old.mem; after = M.byte self.new.mem; heap = self.old.heap; heap_after = self.new.heap; env = env.old; env_after = env.new }) more s (affordable left (row (program_with facts.entry.sound.now facts.entry.addresses.now (M.regions self.old.mem)) s)) }
+        ensures placed { Placed result self.old.at self.old.base self.new.at self.new.base }
+        ensures regions { M.regions self.new.mem ≡ M.regions self.old.mem }
+        ensures held { M.held self.new.mem ≡ M.held self.old.mem }
+        ensures ended { env.new.ended ≡ env.old.ended }
+    {
+        let told = outside(
+            facts,
+            externals,
+            taken,
+            self.slots.as_mut_slice(),
+            &mut self.frames,
+            &mut self.numbers,
+            &mut self.sp,
+            &mut self.mem,
+            &mut self.heap,
+            env,
+            self.at,
+            self.base,
+            left,
+        );
+        self.place(told);
+        told
     }
 }

@@ -1,122 +1,116 @@
-ghost use Rattle.std.specs.Prelude.{◌≡◌, ◌<◌, ◌≤◌, ◌^◌, true};
-ghost use Rattle.no_semantics.specs.Results.{binary_value, bit, cast_value, compare_value, freeze_value, select_value};
-ghost use Rattle.no_semantics.specs.Sound.{goes_between, is_scalar, operand_fits};
-ghost use Rattle.no_semantics.specs.Values.{width_of};
-ghost use Rattle.no_machine.specs.Held.{program_in};
-ghost use Rattle.no_machine.specs.Outcomes.{value_of};
+ghost use Rattle.std.specs.Prelude.{◌≡◌, ◌==◌, if◌then◌else◌};
+ghost use Rattle.no_eval.specs.Binary.{binary_of};
+ghost use Rattle.no_eval.specs.Compare.{compare_of};
+ghost use Rattle.no_eval.specs.Cast.{cast_of};
+ghost use Rattle.no_semantics.specs.Results.{bit};
+ghost use Rattle.no_machine.specs.Slots.{value_in};
+ghost use Rattle.no_machine.specs.Did.{Gave, IsReadyBinary, IsReadyCast, IsReadyCopy, IsReadySelect, Wrote};
 
-use crate::state::{Core, Outcome};
+use crate::did::Did;
+use crate::slots::{put, read};
 use no_eval::{binary, cast, compare};
-use no_ir::{BinOp, CastOp, Operand, Pred, Ty};
-use no_layout::Memory;
-use no_semantics::{Sound, width_at};
-
-impl<M: Memory> Core<M> {
-    /// A binary operator.
-    #[tactic(auto, unfolding(no_semantics::specs::Results::binary_value))]
-    pub(crate) fn binary(&self, sound: &Sound, o: BinOp, w: u8, a: &Operand, b: &Operand) -> Outcome
-        requires some { 0 < w }
-        requires most { w ≤ 64 }
-        requires left { operand_fits sound.now.«module» sound.now.layout sound.now.sizes a.now ≡ true }
-        requires right { operand_fits sound.now.«module» sound.now.layout sound.now.sizes b.now ≡ true }
-        ensures { value_of result ≡ binary_value (program_in M.regions sound.now self.now) self.now.frame.registers o w a.now b.now }
-    {
-        let Some(x) = self.operand(sound, w, a) else {
-            return Outcome::Nothing;
-        };
-        let Some(y) = self.operand(sound, w, b) else {
-            return Outcome::Nothing;
-        };
-        match binary(o, w, x, y) {
-            Ok(n) => Outcome::Number(n),
-            Err(trap) => Outcome::Traps(trap),
-        }
-    }
-
-    /// A comparison.
-    #[tactic(auto, unfolding(no_semantics::specs::Results::compare_value))]
-    pub(crate) fn compare(
-        &self,
-        sound: &Sound,
-        o: Pred,
-        t: &Ty,
-        a: &Operand,
-        b: &Operand,
-    ) -> Outcome
-        requires scalar { is_scalar t.now ≡ true }
-        requires left { operand_fits sound.now.«module» sound.now.layout sound.now.sizes a.now ≡ true }
-        requires right { operand_fits sound.now.«module» sound.now.layout sound.now.sizes b.now ≡ true }
-        ensures { value_of result ≡ compare_value (program_in M.regions sound.now self.now) self.now.frame.registers o t.now a.now b.now }
-    {
-        let Some(x) = self.typed(sound, t, a) else {
-            return Outcome::Nothing;
-        };
-        let Some(y) = self.typed(sound, t, b) else {
-            return Outcome::Nothing;
-        };
-        Outcome::Number(bit(compare(o, width_at(sound, t), x, y)))
-    }
-
-    /// A conversion.
-    #[tactic(auto, unfolding(no_semantics::specs::Results::cast_value))]
-    pub(crate) fn convert(&self, sound: &Sound, o: CastOp, t: &Ty, a: &Operand, u: &Ty) -> Outcome
-        requires from { is_scalar t.now ≡ true }
-        requires to { is_scalar u.now ≡ true }
-        requires between { goes_between o (width_of sound.now.layout t.now) (width_of sound.now.layout u.now) ≡ true }
-        requires operand { operand_fits sound.now.«module» sound.now.layout sound.now.sizes a.now ≡ true }
-        ensures { value_of result ≡ cast_value (program_in M.regions sound.now self.now) self.now.frame.registers o t.now a.now u.now }
-    {
-        let Some(x) = self.typed(sound, t, a) else {
-            return Outcome::Nothing;
-        };
-        Outcome::Number(cast(o, width_at(sound, t), width_at(sound, u), x))
-    }
-
-    /// The operand itself.
-    #[tactic(auto, unfolding(no_semantics::specs::Results::freeze_value))]
-    pub(crate) fn freeze(&self, sound: &Sound, t: &Ty, a: &Operand) -> Outcome
-        requires scalar { is_scalar t.now ≡ true }
-        requires operand { operand_fits sound.now.«module» sound.now.layout sound.now.sizes a.now ≡ true }
-        ensures { value_of result ≡ freeze_value (program_in M.regions sound.now self.now) self.now.frame.registers t.now a.now }
-    {
-        match self.typed(sound, t, a) {
-            Some(x) => Outcome::Number(x),
-            None => Outcome::Nothing,
-        }
-    }
-
-    /// One of two operands.
-    #[tactic(auto, unfolding(no_semantics::specs::Results::select_value))]
-    pub(crate) fn select(
-        &self,
-        sound: &Sound,
-        c: &Operand,
-        t: &Ty,
-        a: &Operand,
-        b: &Operand,
-    ) -> Outcome
-        requires scalar { is_scalar t.now ≡ true }
-        requires condition { operand_fits sound.now.«module» sound.now.layout sound.now.sizes c.now ≡ true }
-        requires left { operand_fits sound.now.«module» sound.now.layout sound.now.sizes a.now ≡ true }
-        requires right { operand_fits sound.now.«module» sound.now.layout sound.now.sizes b.now ≡ true }
-        ensures { value_of result ≡ select_value (program_in M.regions sound.now self.now) self.now.frame.registers c.now t.now a.now b.now }
-    {
-        let Some(z) = self.operand(sound, 1, c) else {
-            return Outcome::Nothing;
-        };
-        let Some(x) = self.typed(sound, t, a) else {
-            return Outcome::Nothing;
-        };
-        let Some(y) = self.typed(sound, t, b) else {
-            return Outcome::Nothing;
-        };
-        Outcome::Number(if z == 1 { x } else { y })
-    }
-}
+use no_ir::{BinOp, CastOp, Pred};
 
 /// A truth value as a number of one bit.
+#[inline(always)]
 fn bit(b: bool) -> u64
     ensures { result ≡ bit b }
 {
     if b { 1 } else { 0 }
+}
+
+/// One of two numbers.
+#[inline(always)]
+fn chosen(first: bool, x: u64, y: u64) -> u64
+    ensures { result ≡ (if first then x else y) }
+{
+    if first { x } else { y }
+}
+
+/// A binary operator.
+#[inline(always)]
+pub(crate) fn combine(
+    o: BinOp,
+    w: u8,
+    window: &mut [u64],
+    constants: &[u64],
+    into: u32,
+    x: u32,
+    y: u32,
+) -> Did
+    requires { IsReadyBinary window.old constants.now w into x y }
+    ensures { Gave (binary_of o w (value_in window.old constants.now x) (value_in window.old constants.now y)) into window.old window.new result }
+{
+    match binary(o, w, read(window, constants, x), read(window, constants, y)) {
+        Ok(n) => put(window, into, n),
+        Err(trap) => Did::Trapped(trap),
+    }
+}
+
+/// A comparison.
+#[inline(always)]
+pub(crate) fn judge(
+    o: Pred,
+    w: u8,
+    window: &mut [u64],
+    constants: &[u64],
+    into: u32,
+    x: u32,
+    y: u32,
+) -> Did
+    requires { IsReadyBinary window.old constants.now w into x y }
+    ensures { Wrote (bit (compare_of o w (value_in window.old constants.now x) (value_in window.old constants.now y))) into window.old window.new result }
+{
+    let holds = compare(o, w, read(window, constants, x), read(window, constants, y));
+    put(window, into, bit(holds))
+}
+
+/// A conversion.
+#[inline(always)]
+pub(crate) fn convert(
+    o: CastOp,
+    w: u8,
+    to: u8,
+    window: &mut [u64],
+    constants: &[u64],
+    into: u32,
+    x: u32,
+) -> Did
+    requires { IsReadyCast window.old constants.now o w to into x }
+    ensures { Wrote (cast_of o w to (value_in window.old constants.now x)) into window.old window.new result }
+{
+    let n = cast(o, w, to, read(window, constants, x));
+    put(window, into, n)
+}
+
+/// The operand itself.
+#[inline(always)]
+pub(crate) fn copy(window: &mut [u64], constants: &[u64], into: u32, x: u32) -> Did
+    requires { IsReadyCopy window.old constants.now into x }
+    ensures { Wrote (value_in window.old constants.now x) into window.old window.new result }
+{
+    let n = read(window, constants, x);
+    put(window, into, n)
+}
+
+/// One of two operands.
+#[inline(always)]
+pub(crate) fn select(
+    window: &mut [u64],
+    constants: &[u64],
+    into: u32,
+    z: u32,
+    x: u32,
+    y: u32,
+) -> Did
+    requires { IsReadySelect window.old constants.now into z x y }
+    ensures { Wrote (if value_in window.old constants.now z == 1 then value_in window.old constants.now x else value_in window.old constants.now y) into window.old window.new result }
+{
+    let first = read(window, constants, z) == 1;
+    let n = chosen(
+        first,
+        read(window, constants, x),
+        read(window, constants, y),
+    );
+    put(window, into, n)
 }

@@ -1,7 +1,7 @@
 -- What an instruction does in a state: its cost, the bytes that it needs, and what comes next.
-use Rattle.std.specs.Prelude.{ℕ, ◌==◌, Bool, true, false, nat_lt, if◌then◌else◌, List, [], ◌++◌, Option, None}
+use Rattle.std.specs.Prelude.{ℕ, ◌≡◌, ◌==◌, ◌%◌, Bool, true, false, nat_lt, if◌then◌else◌, List, [], ◌++◌, Option, Some, None}
 use Rattle.no_ir.specs.declared.ending.End.{End}
-use Rattle.no_ir.specs.declared.ending.End.TheVariants.{Trapped, Unfinished}
+use Rattle.no_ir.specs.declared.ending.End.TheVariants.{Exited, Trapped, Unfinished}
 use Rattle.no_ir.specs.declared.ending.Trap.{Trap}
 use Rattle.no_semantics.specs.Results.{Valued, Number, Traps, NoValue}
 use Rattle.no_semantics.specs.Spans.{Span}
@@ -83,3 +83,17 @@ limited left row = if row.cost == 0 then row else (if left == 0 then unfinished 
 abbrev pub charged : Bool → Row → Row
 charged true row = record row { cost = 0 }
 charged false row = row
+
+-- ---- how a run ends
+
+-- the run ends here so: the first frame's return ends it with the low 8 bits
+abbrev pub EndsSo : Next → End → Type 0
+EndsSo (Leaves (Some n)) e = e ≡ Exited (n % 256)
+EndsSo (Ends end) e = e ≡ end
+EndsSo _ e = ⊥
+
+-- what has no meaning: the definitions are stuck here, or the run's first frame returns nothing
+abbrev pub HasNoMeaning : Next → Type 0
+HasNoMeaning Stuck = Unit {0}
+HasNoMeaning (Leaves None) = Unit {0}
+HasNoMeaning _ = ⊥

@@ -1,5 +1,5 @@
 -- States of a run (docs/LANGUAGE.md, "Running").
-use Rattle.std.specs.Prelude.{ℕ, ◌+◌, List, slice_get, slice_set, Option, Some, None}
+use Rattle.std.specs.Prelude.{ℕ, ◌≡◌, ◌+◌, Bool, false, List, slice_get, slice_set, Option, Some, None}
 use Rattle.no_ir.specs.declared.function.Block.{Block}
 use Rattle.no_ir.specs.declared.function.Function.{Function}
 use Rattle.no_ir.specs.declared.function.Module.{Module}
@@ -33,6 +33,10 @@ function_at p k = slice_get p.«module».functions k
 -- block b of function k
 abbrev pub block_in : Module → ℕ → ℕ → Option Block
 block_in m k b = given None (slice_get m.functions k) (λ (f : Function). slice_get f.blocks b)
+
+-- no instruction of a module is marked as one that costs nothing
+abbrev pub HasNoMarks : Module → Type 0
+HasNoMarks m = (k b at : ℕ) (i : Instr) → given None (block_in m k b) (λ (x : Block). slice_get x.instrs at) ≡ Some i → i.inserted ≡ false
 
 abbrev pub block_at : Program → ℕ → ℕ → Option Block
 block_at p k b = block_in p.«module» k b

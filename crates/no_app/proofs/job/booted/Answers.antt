@@ -1,7 +1,7 @@
 use Rattle.std.proofs.Common.{◌∙◌, IfOk, subst, sym}
 use Rattle.no_layout.specs.Memory.{AreFormed}
 use Rattle.no_pages.specs.Table.{regions_of}
-use Rattle.no_machine.specs.Booted.{IsBooted}
+use Rattle.no_walker.specs.Booted.{IsBooted}
 use Rattle.no_app.proofs.Starting.{started}
 use Rattle.no_app.proofs.job.booted.Goals as goal
 

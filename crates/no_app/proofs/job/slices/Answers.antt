@@ -1,5 +1,5 @@
 use Rattle.std.proofs.Common.{◌∙◌, refl, ap, arith}
-use Rattle.no_machine.specs.declared.machine.StepAnswer.TheVariants as answer
+use Rattle.no_walker.specs.declared.machine.StepAnswer.TheVariants as answer
 use Rattle.no_app.specs.Jobs.{report_alone}
 use Rattle.no_app.specs.declared.job.JobEnd.TheVariants as job
 use Rattle.no_app.proofs.Ending.{less_fed, less_stepped}

@@ -3,7 +3,7 @@ use Rattle.no_cases.proofs.Absent.{is_absent, is_inside}
 use Rattle.no_layout.specs.Memory.{access}
 use Rattle.no_layout.specs.declared.memory.Access.TheVariants.{Missing}
 use Rattle.no_pages.specs.Table.{held_of, regions_of}
-use Rattle.no_machine.specs.Running.{memory_of}
+use Rattle.no_walker.specs.Running.{memory_of}
 use Rattle.no_cases.proofs.machine.offer.Goals as goal
 
 pub supply-requires-clause-absent : goal.supply-requires-clause-absent

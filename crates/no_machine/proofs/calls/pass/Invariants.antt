@@ -1,6 +1,6 @@
-use Rattle.std.proofs.Common.{◌≡◌, drop}
-use Rattle.no_semantics.specs.Calls.{passed}
+use Rattle.std.proofs.Common.{◌≡◌, drop, map}
+use Rattle.no_machine.specs.Calling.{argument_in, passed_to}
 use Rattle.no_machine.proofs.calls.pass.Given as goal
 
-abbrev pub invariant-loop-param : goal.invariant-loop-param
-invariant-loop-param l = passed (drop l.param-index l.params) l.rest l.registers ≡ passed l.params l.args l.fn.registers
+abbrev pub invariant-loop-k : goal.invariant-loop-k
+invariant-loop-k l = passed_to (drop l.k l.params) (map (argument_in l.window l.constants) (drop l.k l.args)) l.free ≡ passed_to l.params (map (argument_in l.window l.constants) l.args) l.fn.free

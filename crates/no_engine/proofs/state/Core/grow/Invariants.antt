@@ -1,5 +1,0 @@
-use Rattle.no_engine.specs.Beginning.{Grows}
-use Rattle.no_engine.proofs.state.Core.grow.Given as goal
-
-abbrev pub invariant-loop : goal.invariant-loop
-invariant-loop g l = Grows l.fn.self l.self

@@ -1,0 +1,15 @@
+pub mod Bounds
+pub mod Offsets
+pub mod Returning
+pub mod Acting
+pub mod Touching
+pub mod Invoking
+pub mod Paying
+pub mod Marking
+pub mod Serving
+pub mod Taking
+pub mod Going
+pub mod Booting
+pub mod Slices
+pub mod Inside
+pub mod Reaching

@@ -1,0 +1,13 @@
+pub mod Counted
+pub mod Outcomes
+pub mod Held
+pub mod Acted
+pub mod Edges
+pub mod Called
+pub mod Returned
+pub mod Answered
+pub mod Told
+pub mod Running
+pub mod Labels
+pub mod Booted
+pub mod Ran
