@@ -102,7 +102,7 @@ fn write_types(types: &mut Vec<Option<Scalar>>, defined: Vec<(u32, Option<Scalar
 }
 
 /// So many registers without a type.
-fn no_read_types(alloc: Global, count: usize) -> Result<Vec<Option<Scalar>>, NoMemory>
+fn no_types(alloc: Global, count: usize) -> Result<Vec<Option<Scalar>>, NoMemory>
     ensures { IfOk result (λ types. types.items ≡ replicate count None) }
 {
     let mut types = Vec::new(alloc);
@@ -121,7 +121,7 @@ pub(crate) fn register_types(
     ensures { IfOk result (λ types. types.items ≡ register_types function.now) }
 {
     let defined = all_defined(alloc, function)?;
-    let mut types = no_read_types(alloc, function.registers.len())?;
+    let mut types = no_types(alloc, function.registers.len())?;
     write_types(&mut types, defined);
     Ok(types)
 }
