@@ -49,7 +49,7 @@ some_of : {A B : Type 0} (o : Option A) (f : A → Option B) (n : B) → given N
 some_of None f n e = absurd cc
 some_of (Some x) f n e = (x, refl, e)
 
-start_known : (p : Program) (byte : ℕ → ℕ) (input : List ℕ) (s : State) → start p byte input ≡ Some s → (f : Frame) × (main_frame p ≡ Some f) × (begun byte input f ≡ s)
+pub start_known : (p : Program) (byte : ℕ → ℕ) (input : List ℕ) (s : State) → start p byte input ≡ Some s → (f : Frame) × (main_frame p ≡ Some f) × (begun byte input f ≡ s)
 unfolding start
 start_known p byte input s e = let one = some_of (main_frame p) (λ f. Some (begun byte input f)) s e in (one.0, one.1, same_Some (begun byte input one.0) s one.2)
 

@@ -23,3 +23,5 @@ pub mod Reaches
 pub mod Tabled
 pub mod Begun
 pub mod Counting
+pub mod Booting
+pub mod Supplied

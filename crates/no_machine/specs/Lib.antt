@@ -6,3 +6,4 @@ pub mod Calling
 pub mod Outside
 pub mod Beginning
 pub mod Ran
+pub mod Booted

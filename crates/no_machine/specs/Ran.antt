@@ -27,6 +27,21 @@ use Rattle.no_machine.specs.declared.out.Out.TheVariants as out
 abbrev pub program_of : {M : Type 0} → (M → Regions) → Accepted → Machine M → Program
 program_of regions a m = program_with a m.addresses (regions m.core.mem)
 
+-- its memory
+abbrev pub memory_of : {M : Type 0} → Machine M → M
+memory_of m = m.core.mem
+
+-- what was counted so far, and how much may be
+abbrev pub count_of : {M : Type 0} → Machine M → ℕ
+count_of m = m.count
+
+abbrev pub budget_of : {M : Type 0} → Machine M → ℕ
+budget_of m = m.budget
+
+-- how the run ended, if it has
+abbrev pub end_of : {M : Type 0} → Machine M → Option End
+end_of m = m.end
+
 -- what is left of its budget
 abbrev pub left_of : {M : Type 0} → Machine M → ℕ
 left_of m = m.budget - m.count

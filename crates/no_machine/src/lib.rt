@@ -4,6 +4,7 @@
 mod access;
 mod act;
 mod begin;
+mod boot;
 mod calls;
 mod did;
 mod edges;
@@ -20,6 +21,7 @@ mod slots;
 mod spin;
 mod state;
 mod step;
+mod supply;
 mod tables;
 mod turn;
 mod values;
