@@ -17,7 +17,7 @@ use Rattle.no_lex.specs.Tokens.{Lexes}
 use Rattle.no_read.specs.declared.fault.ReadFault.{ReadFault}
 use Rattle.no_read.specs.Reading.{Reads}
 use Rattle.no_semantics.specs.Accepted.{Accepted}
-use Rattle.no_verify.specs.Verdict.{IsAccepted, IsVerdict}
+use Rattle.no_verify.specs.Verdict.{Accepts, Answers, Faulty, IsAccepted, IsVerdict, Unstated, Verdict}
 use Rattle.no_verify.specs.declared.fault.VerifyError.{VerifyError}
 use Rattle.no_verify.specs.declared.fault.VerifyError.TheVariants as verifying
 use Rattle.no_verify.proofs.Unique.{verdict_once}
@@ -38,46 +38,31 @@ loads_so P Q so (Err refused.NoMemory) p = tt
 
 -- ---- the verdict
 
-told_once : (v : Result Accepted VerifyError) (x y : Answer) → MeansVerdict v x → MeansVerdict v y → x ≡ y
-told_once (Ok a) x y p q = p ∙ sym q
-told_once (Err (verifying.Layout fault)) x y p q = p ∙ sym q
-told_once (Err (verifying.Fault fault)) x y p q = p ∙ sym q
-told_once (Err verifying.NoMemory) x y p q = absurd p
+told_once : (v : Verdict) (x y : Answer) → MeansVerdict v x → MeansVerdict v y → x ≡ y
+told_once (Accepts a) x y p q = p ∙ sym q
+told_once (Unstated fault) x y p q = p ∙ sym q
+told_once (Faulty fault) x y p q = p ∙ sym q
 
 -- a module means one thing
-means_once : (m : Module) (v : Result Accepted VerifyError) (x y : Answer) → IsVerdict m Source v → MeansVerdict v x → MeansModule m y → x ≡ y
-means_once m v x y is p other = elim (verdict_once m Source v other.verdict is other.judged_so) [
-  | inl memory ↦ absurd (subst (λ (w : Result Accepted VerifyError). MeansVerdict w x) memory p)
-  | inr more ↦ elim more [
-    | inl memory ↦ absurd (subst (λ (w : Result Accepted VerifyError). MeansVerdict w y) memory other.means)
-    | inr same ↦ told_once other.verdict x y (subst (λ (w : Result Accepted VerifyError). MeansVerdict w x) same p) other.means
-  ]
-]
+means_once : (m : Module) (v : Verdict) (x y : Answer) → IsVerdict m Source v → MeansVerdict v x → MeansModule m y → x ≡ y
+means_once m v x y is p other =
+    told_once other.verdict x y (subst (λ (w : Verdict). MeansVerdict w x) (verdict_once m Source v other.verdict is other.judged_so) p) other.means
 
--- the parts of an accepted module
-pub parts_are : (a : Accepted) (m : Module) (l : Layout) (sizes : List Extent) (role : Role) → m ≡ a.«module» → l ≡ a.layout → sizes ≡ a.sizes → role ≡ a.role
-    → record { «module» = m; layout = l; sizes = sizes; role = role } ≡ a
-parts_are a m l sizes role p q s t =
-    ap (λ (x : Module). let z : Accepted = record { «module» = x; layout = l; sizes = sizes; role = role } in z) p
-    ∙ ap (λ (x : Layout). let z : Accepted = record { «module» = a.«module»; layout = x; sizes = sizes; role = role } in z) q
-    ∙ ap (λ (x : List Extent). let z : Accepted = record { «module» = a.«module»; layout = a.layout; sizes = x; role = role } in z) s
-    ∙ ap (λ (x : Role). let z : Accepted = record { «module» = a.«module»; layout = a.layout; sizes = a.sizes; role = x } in z) t
+pub accepted_loads : (m : Module) (a : Accepted) → IsAccepted m Source a → Loads (Ok a) (MeansModule m)
+accepted_loads m a is = record { verdict = Accepts a; judged_so = is; means = refl }
 
-pub accepted_loads : (m : Module) (a s : Accepted) → IsVerdict m Source (Ok a) → s ≡ a → Loads (Ok s) (MeansModule m)
-accepted_loads m a s is same = record { verdict = Ok a; judged_so = is; means = ap Ok same }
+pub accepted_only : (m : Module) (a : Accepted) → IsAccepted m Source a → (answer : Answer) → MeansModule m answer → Loads (Ok a) (λ x. x ≡ answer)
+accepted_only m a is answer means = means_once m (Accepts a) (Ok a) answer is refl means
 
-pub accepted_only : (m : Module) (a s : Accepted) → IsVerdict m Source (Ok a) → s ≡ a → (answer : Answer) → MeansModule m answer → Loads (Ok s) (λ x. x ≡ answer)
-accepted_only m a s is same answer means = means_once m (Ok a) (Ok s) answer is (ap Ok same) means
-
-pub unaccepted_loads : (m : Module) (e : VerifyError) → IsVerdict m Source (Err e) → Loads (Err (unaccepted e)) (MeansModule m)
+pub unaccepted_loads : (m : Module) (e : VerifyError) → Answers (Err e) (IsVerdict m Source) → Loads (Err (unaccepted e)) (MeansModule m)
 unaccepted_loads m verifying.NoMemory is = tt
-unaccepted_loads m (verifying.Layout fault) is = record { verdict = Err (verifying.Layout fault); judged_so = is; means = refl }
-unaccepted_loads m (verifying.Fault fault) is = record { verdict = Err (verifying.Fault fault); judged_so = is; means = refl }
+unaccepted_loads m (verifying.Layout fault) is = record { verdict = Unstated fault; judged_so = is; means = refl }
+unaccepted_loads m (verifying.Fault fault) is = record { verdict = Faulty fault; judged_so = is; means = refl }
 
-pub unaccepted_only : (m : Module) (e : VerifyError) → IsVerdict m Source (Err e) → (answer : Answer) → MeansModule m answer → Loads (Err (unaccepted e)) (λ x. x ≡ answer)
+pub unaccepted_only : (m : Module) (e : VerifyError) → Answers (Err e) (IsVerdict m Source) → (answer : Answer) → MeansModule m answer → Loads (Err (unaccepted e)) (λ x. x ≡ answer)
 unaccepted_only m verifying.NoMemory is answer means = tt
-unaccepted_only m (verifying.Layout fault) is answer means = means_once m (Err (verifying.Layout fault)) (Err (modules.Layout fault)) answer is refl means
-unaccepted_only m (verifying.Fault fault) is answer means = means_once m (Err (verifying.Fault fault)) (Err (modules.Verify fault)) answer is refl means
+unaccepted_only m (verifying.Layout fault) is answer means = means_once m (Unstated fault) (Err (modules.Layout fault)) answer is refl means
+unaccepted_only m (verifying.Fault fault) is answer means = means_once m (Faulty fault) (Err (modules.Verify fault)) answer is refl means
 
 -- ---- the tokens read to a module, and this was judged
 
@@ -129,11 +114,10 @@ abbrev program_or : Accepted → Answer → Accepted
 program_or other (Ok a) = a
 program_or other (Err fault) = other
 
-accepted_verdict : (m : Module) (v : Result Accepted VerifyError) (p : Accepted) → IsVerdict m Source v → MeansVerdict v (Ok p) → IsAccepted m Source p
-accepted_verdict m (Ok a) p is means = subst (IsAccepted m Source) (ap (program_or a) (sym means)) is
-accepted_verdict m (Err (verifying.Layout fault)) p is means = absurd cc
-accepted_verdict m (Err (verifying.Fault fault)) p is means = absurd cc
-accepted_verdict m (Err verifying.NoMemory) p is means = absurd means
+accepted_verdict : (m : Module) (v : Verdict) (p : Accepted) → IsVerdict m Source v → MeansVerdict v (Ok p) → IsAccepted m Source p
+accepted_verdict m (Accepts a) p is means = subst (IsAccepted m Source) (ap (program_or a) (sym means)) is
+accepted_verdict m (Unstated fault) p is means = absurd cc
+accepted_verdict m (Faulty fault) p is means = absurd cc
 
 accepted_read : (m : Result Module ReadFault) (p : Accepted) → MeansRead m (Ok p) → (x : Module) × IsAccepted x Source p
 accepted_read (Ok m) p means = (m, accepted_verdict m means.verdict p means.judged_so means.means)

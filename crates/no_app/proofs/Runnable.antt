@@ -14,7 +14,6 @@ use Rattle.no_semantics.specs.Accepted.{Accepted}
 use Rattle.no_semantics.specs.Registers.{given}
 use Rattle.no_verify.specs.Verdict.{IsAccepted}
 use Rattle.no_semantics.specs.States.{HasNoMarks}
-use Rattle.no_runnable.proofs.Modules.{accepted_begins}
 use Rattle.no_safe.proofs.Accepting.{own, has_main, runs}
 use Rattle.no_safe.proofs.Lists.{all_at}
 use Rattle.no_app.specs.Jobs.{IsRunnable}
@@ -44,7 +43,6 @@ runnable m a is =
     let main = (has_main a whole).main in
     record {
       role = is.role_is;
-      image = accepted_begins m Source a is;
       main = (main.number, main.is);
       marks = no_marks a.«module» whole.marks;
       runs = λ given are budget. runs a whole given are budget;

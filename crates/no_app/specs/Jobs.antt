@@ -8,7 +8,6 @@ use Rattle.no_pages.specs.declared.table.PageTable.{PageTable}
 use Rattle.no_walker.specs.Counted.{Counted}
 use Rattle.no_walker.specs.Running.{count_of, budget_of}
 use Rattle.no_walker.specs.declared.machine.Machine.{Machine}
-use Rattle.no_image.specs.Fits.{has_image}
 use Rattle.no_ir.specs.declared.function.Role.TheVariants.{Source}
 use Rattle.no_progress.specs.Proper.{Each}
 use Rattle.no_semantics.specs.First.{program_of, first_byte}
@@ -46,10 +45,9 @@ pub record OnRun (a : Accepted) (given : List ℕ) (budget : ℕ) (P : Ran → T
   pub runs : IsRun a given budget ran
   pub so : P ran
 
--- A source module that runs: it has an image and a main, no instruction of it is free, and on each input it has a run within each budget.
+-- A source module that runs: it has a main, no instruction of it is free, and on each input it has a run within each budget.
 pub record IsRunnable (a : Accepted) : Type 0 where
   pub role : a.role ≡ Source
-  pub image : has_image a.«module» a.layout a.sizes ≡ true
   pub main : (k : ℕ) × (main_from 0 a.«module».functions ≡ Some k)
   pub marks : HasNoMarks a.«module»
   pub runs : (given : List ℕ) → AreBytes given → (budget : ℕ) → (ran : Ran) × IsRun a given budget ran

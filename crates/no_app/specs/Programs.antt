@@ -12,7 +12,7 @@ use Rattle.no_read.specs.declared.fault.ReadError.TheVariants as reading
 use Rattle.no_read.specs.declared.fault.ReadFault.{ReadFault}
 use Rattle.no_read.specs.Reading.{Reads}
 use Rattle.no_semantics.specs.Accepted.{Accepted}
-use Rattle.no_verify.specs.Verdict.{IsVerdict}
+use Rattle.no_verify.specs.Verdict.{Accepts, Faulty, IsVerdict, Unstated, Verdict}
 use Rattle.no_verify.specs.declared.fault.VerifyError.{VerifyError}
 use Rattle.no_verify.specs.declared.fault.VerifyError.TheVariants as verifying
 use Rattle.no_app.specs.declared.loading.Refused.{Refused}
@@ -23,15 +23,14 @@ use Rattle.no_app.specs.declared.outcome.ModuleFault.TheVariants as modules
 -- ---- a module
 
 -- by the verdict, which is one of these
-abbrev pub MeansVerdict : Result Accepted VerifyError → Result Accepted ModuleFault → Type 0
-MeansVerdict (Ok a) found = found ≡ Ok a
-MeansVerdict (Err (verifying.Layout fault)) found = found ≡ Err (modules.Layout fault)
-MeansVerdict (Err (verifying.Fault fault)) found = found ≡ Err (modules.Verify fault)
-MeansVerdict (Err verifying.NoMemory) found = ⊥
+abbrev pub MeansVerdict : Verdict → Result Accepted ModuleFault → Type 0
+MeansVerdict (Accepts a) found = found ≡ Ok a
+MeansVerdict (Unstated fault) found = found ≡ Err (modules.Layout fault)
+MeansVerdict (Faulty fault) found = found ≡ Err (modules.Verify fault)
 
 -- what a module means: the verifier judges it as a source
 pub record MeansModule (m : Module) (found : Result Accepted ModuleFault) : Type 0 where
-  pub verdict : Result Accepted VerifyError
+  pub verdict : Verdict
   pub judged_so : IsVerdict m Source verdict
   pub means : MeansVerdict verdict found
 

@@ -11,9 +11,8 @@ use crate::outcome::ModuleFault;
 use no_ir::{Module, NoMemory, Role};
 use no_lex::{LexError, Token, tokens};
 use no_read::{ReadError, read_module};
-use no_runnable::accepted_programs_can_run;
 use no_semantics::Sound;
-use no_verify::{Sound as Verified, VerifyError, verify};
+use no_verify::{VerifyError, verify};
 use std::alloc::Global;
 
 /// The greatest length of a text, in bytes.
@@ -37,17 +36,6 @@ impl From<NoMemory> for Refused {
     }
 }
 
-/// An accepted source, as images and machines take it.
-#[tactic(auto, using(crate::proofs::Meanings::parts_are))]
-fn sound_of(accepted: Verified) -> Sound
-    requires { IsAccepted accepted.«module» Source accepted }
-    ensures { result ≡ accepted }
-{
-    accepted_programs_can_run();
-    let (program, layout, sizes, role) = accepted.into_parts();
-    Sound::of(program, layout, sizes, role)
-}
-
 fn unaccepted(error: VerifyError) -> Refused
     ensures { result ≡ unaccepted error }
 {
@@ -68,7 +56,7 @@ fn accepted(alloc: Global, program: Module) -> Result<Sound, Refused>
     ensures accepted { IfOk result (λ s. IsAccepted s.«module» Source s) }
 {
     match verify(alloc, program, Role::Source) {
-        Ok(accepted) => Ok(sound_of(accepted)),
+        Ok(accepted) => Ok(accepted),
         Err(error) => Err(unaccepted(error)),
     }
 }

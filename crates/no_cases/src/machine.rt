@@ -165,7 +165,7 @@ fn program(alloc: Global) -> Result<Module, NoMemory>
     })
 }
 
-#[tactic(auto, using(crate::proofs::Sample::sound))]
+#[tactic(auto, using(crate::proofs::Sample::sound, crate::proofs::Sample::has_memory))]
 fn accepted(alloc: Global) -> Result<Sound, NoMemory>
     ensures { IfOk result (λ a. a.«module» ≡ sample) }
 {

@@ -76,13 +76,13 @@ abbrev pub IsUnknown : List ℕ → Verdict → Type 0
 IsUnknown name (Bound rule.NotDefined names) = names ≡ name ∷ []
 IsUnknown name _ = ⊥
 
-abbrev pub IsVerdictOf : Accepted → List ℕ → Layout → Option ℕ → Verdict → Type 0
-IsVerdictOf m name server None verdict = IsUnknown name verdict
-IsVerdictOf m name server (Some f) verdict = IsOf m name server f verdict
+abbrev pub IsJudgedOf : Accepted → List ℕ → Layout → Option ℕ → Verdict → Type 0
+IsJudgedOf m name server None verdict = IsUnknown name verdict
+IsJudgedOf m name server (Some f) verdict = IsOf m name server f verdict
 
 -- the verdict on a name
-abbrev pub IsVerdict : Accepted → List ℕ → Layout → Verdict → Type 0
-IsVerdict m name server verdict = IsVerdictOf m name server (named_from name 0 m.«module».functions) verdict
+abbrev pub IsJudged : Accepted → List ℕ → Layout → Verdict → Type 0
+IsJudged m name server verdict = IsJudgedOf m name server (named_from name 0 m.«module».functions) verdict
 
 -- ---- all functions at once
 

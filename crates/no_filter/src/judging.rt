@@ -1,6 +1,6 @@
 ghost use Rattle.std.specs.Prelude.{◌≡◌, ◌<◌, ◌^◌, [], ◌∷◌, Some, slice_get, length, IfOk};
 ghost use Rattle.no_calls.specs.Links.{IsGraphOf};
-ghost use Rattle.no_filter.specs.Verdicts.{Answers, IsAlone, IsOf, IsReached, IsVerdict, name_in, named_from, names_of};
+ghost use Rattle.no_filter.specs.Verdicts.{Answers, IsAlone, IsJudged, IsOf, IsReached, name_in, named_from, names_of};
 
 use crate::reasons::{inputs, pinned, volatiles};
 use crate::rules::{MOST_PARAMETERS, Rule, Verdict};
@@ -162,7 +162,7 @@ pub fn judge(
     server: &Layout,
 ) -> Result<Verdict, NoMemory>
     requires { IsGraphOf sound.now.«module» graph.now }
-    ensures { IfOk result (IsVerdict sound.now name.now server.now) }
+    ensures { IfOk result (IsJudged sound.now name.now server.now) }
 {
     let functions = sound.module().functions.as_slice();
     let Some(number) = number_named(functions, name) else {

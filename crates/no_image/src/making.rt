@@ -15,10 +15,9 @@ use std::alloc::Global;
 
 /// The first memory of a source: the address of each global, where constants and globals end, and the bytes of each
 /// global that does not begin as zeros.
-#[tactic(auto, using(crate::proofs::Apart::regions_formed, crate::proofs::Apart::image_low))]
+#[tactic(auto, using(crate::proofs::Apart::regions_formed))]
 pub fn image(alloc: Global, sound: &Sound) -> Result<Image, NoMemory>
-    requires source { sound.now.role ≡ Role.Source }
-    requires fits { has_image sound.now.«module» sound.now.layout sound.now.sizes ≡ true }
+    requires { sound.now.role ≡ Role.Source }
     ensures { IfOk result (λ i. IsImage sound.now i) }
 {
     let regions = regions(sound);

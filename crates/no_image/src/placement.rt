@@ -3,7 +3,7 @@ ghost use Rattle.no_layout.specs.Memory.{globals_limit};
 ghost use Rattle.no_layout.specs.Text.{is_formed};
 ghost use Rattle.no_room.specs.Fits.{have_types};
 ghost use Rattle.no_semantics.specs.Image.{addresses_of, end_of, global_align, globals_start_of, place_behind, regions_of};
-ghost use Rattle.no_image.specs.Fits.{global_fits, image_fits};
+ghost use Rattle.no_image.specs.Fits.{global_fits, has_image, image_fits};
 
 use no_ir::{GlobalVar, List, NoMemory};
 use no_layout::{CONSTANTS_START, Layout, Regions, Sizes};
@@ -46,10 +46,10 @@ fn end_for(constant: bool, constants: u64, writable: u64) -> u64
 /// Where the constants and the globals of a module end.
 #[tactic(auto, using(crate::proofs::Placed::types_fit, crate::proofs::Placed::constants_end_low, crate::proofs::Placed::ends_low, crate::proofs::Placed::start_low))]
 pub fn regions(sound: &Sound) -> Regions
-    requires { image_fits sound.now.layout sound.now.sizes sound.now.«module».globals ≡ true }
-    ensures { result ≡ regions_of sound.now.layout sound.now.sizes sound.now.«module».globals }
+    ensures value { result ≡ regions_of sound.now.layout sound.now.sizes sound.now.«module».globals }
+    ensures begins { has_image sound.now.«module» sound.now.layout sound.now.sizes ≡ true }
 {
-    let globals = sound.module().globals.as_slice();
+    let globals = sound.globals();
     let constants = last_end(
         sound.layout(),
         sound.sizes(),
@@ -73,10 +73,9 @@ pub fn regions(sound: &Sound) -> Regions
 /// The address of each global of a module, in their order.
 #[tactic(auto, using(crate::proofs::Placed::types_fit, crate::proofs::Placed::constants_end_low, crate::proofs::Placed::start_low))]
 pub fn addresses(alloc: Global, sound: &Sound) -> Result<List<u32>, NoMemory>
-    requires { image_fits sound.now.layout sound.now.sizes sound.now.«module».globals ≡ true }
     ensures { IfOk result (λ all. all ≡ addresses_of sound.now.layout sound.now.sizes sound.now.«module».globals) }
 {
-    let globals = sound.module().globals.as_slice();
+    let globals = sound.globals();
     let constants = last_end(
         sound.layout(),
         sound.sizes(),

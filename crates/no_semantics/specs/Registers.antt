@@ -6,13 +6,9 @@ use Rattle.no_ir.specs.declared.constant.Const.TheVariants as const
 use Rattle.no_ir.specs.declared.instruction.Operand.{Operand}
 use Rattle.no_ir.specs.declared.instruction.Operand.TheVariants as operand'
 use Rattle.no_semantics.specs.Values.{Program, place_address, width_of, extended}
+pub use Rattle.no_sound.specs.Blocks.{given}
 
 -- ---- parts that may be missing
-
--- what is made of a part, and another thing where it is missing
-abbrev pub given : {A B : Type 0} → B → Option A → (A → B) → B
-given other None make = other
-given other (Some x) make = make x
 
 abbrev pub with_front : {A : Type 0} → Option A → Option (List A) → Option (List A)
 with_front (Some x) (Some xs) = Some (x ∷ xs)

@@ -7,6 +7,7 @@ use Rattle.no_ir.specs.declared.instruction.Instr.{Instr}
 use Rattle.no_heap.specs.declared.block.Block as heap'
 use Rattle.no_semantics.specs.Registers.{Registers, given}
 use Rattle.no_semantics.specs.Values.{Program}
+pub use Rattle.no_sound.specs.Blocks.{block_in}
 
 -- a call of a function that goes on: the place of its next instruction, what its registers hold, and the stack pointer that comes back with its return
 pub record Frame : Type 0 where
@@ -29,10 +30,6 @@ pub record State : Type 0 where
 
 abbrev pub function_at : Program → ℕ → Option Function
 function_at p k = slice_get p.«module».functions k
-
--- block b of function k
-abbrev pub block_in : Module → ℕ → ℕ → Option Block
-block_in m k b = given None (slice_get m.functions k) (λ (f : Function). slice_get f.blocks b)
 
 -- no instruction of a module is marked as one that costs nothing
 abbrev pub HasNoMarks : Module → Type 0

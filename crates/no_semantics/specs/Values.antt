@@ -19,6 +19,7 @@ use Rattle.no_layout.specs.declared.extent.Extent.{Extent}
 use Rattle.no_layout.specs.declared.layout.Layout.{Layout}
 use Rattle.no_layout.specs.declared.memory.Regions.{Regions}
 use Rattle.no_semantics.specs.Indices.{path_offset}
+pub use Rattle.no_sound.specs.Widths.{width_of, width_step}
 
 -- what stays the same while a program runs: its module, layout and sizes, the address of each global, the ends of its constants and globals, and its role
 pub record Program : Type 0 where
@@ -30,15 +31,6 @@ pub record Program : Type 0 where
   pub role : Role
 
 -- ---- widths
-
-abbrev pub width_step : Layout → Ty-F Ty → ℕ
-width_step l (Ty-F.Int w) = w
-width_step l Ty-F.Ptr = l.pointer
-width_step l _ = 0
-
--- how many bits a value of an integer type or a pointer has
-abbrev pub width_of : Layout → Ty → ℕ
-width_of l t = width_step l (out-Ty t)
 
 -- how many bytes it has in memory; i1 has a whole one
 abbrev pub bytes_of_width : ℕ → ℕ

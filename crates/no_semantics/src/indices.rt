@@ -9,6 +9,7 @@ ghost use Rattle.no_semantics.specs.Values.{place_number, symbol_number};
 use crate::{Sound, narrowed, pointer_width};
 use no_ir::{Module, Place, Symbol, Ty};
 use no_layout::{Layout, Sizes};
+use no_module::resolved;
 
 /// Where the first function stands.
 const FUNCTIONS: u64 = 0xF000_0000;
@@ -21,19 +22,6 @@ fn wrapped(w: u8, index: &i64) -> u64
     ensures { result ≡ modulo w index.now }
 {
     narrowed(w, index.cast_unsigned())
-}
-
-/// The definition of a named type, and any other type itself.
-pub fn resolved<'a>(program: &'a Module, t: &'a Ty) -> &'a Ty
-    ensures { result.now ≡ resolved program.now.types t.now }
-{
-    match t {
-        Ty::Named(k) => match program.types.get(*k as usize) {
-            Some(named) => &named.1,
-            None => t,
-        },
-        _ => t,
-    }
 }
 
 /// The type of what stands at an index in an array or a struct.
@@ -54,7 +42,7 @@ pub fn part(t: &Ty, index: u64) -> Option<&Ty>
 }
 
 /// How far an index leads into an array or a struct, modulo 2^64.
-#[tactic(auto, using(crate::proofs::Parts::element_fits, crate::proofs::Parts::has_field, crate::proofs::Parts::index_small))]
+#[tactic(auto, using(no_sound::proofs::Parts::element_fits, no_sound::proofs::Parts::has_field, no_sound::proofs::Parts::index_small))]
 pub fn index_offset(layout: &Layout, sizes: &Sizes, t: &Ty, index: u64) -> u64
     requires formed { IsTrue (is_formed layout.now) }
     requires fits { type_fits layout.now sizes.now t.now ≡ true }
@@ -96,7 +84,7 @@ fn inner_leads(program: &Module, pointer: u8, base: &Ty, indices: &[i64]) -> boo
 }
 
 /// How far a first index and the others lead, modulo 2^64.
-#[tactic(auto, using(crate::proofs::Parts::first_more))]
+#[tactic(auto, using(no_sound::proofs::Parts::first_more))]
 pub fn with_first(index: u64, stride: u64, inner: u64) -> u64
     ensures { result ≡ (index * stride + inner) % 2 ^ 64 }
 {
@@ -104,7 +92,7 @@ pub fn with_first(index: u64, stride: u64, inner: u64) -> u64
 }
 
 /// How far the constant indices of a place lead, modulo 2^64.
-#[tactic(auto, using(crate::proofs::Parts::known_sum))]
+#[tactic(auto, using(no_sound::proofs::Parts::known_sum))]
 fn path_offset(sound: &Sound, base: &Ty, indices: &[i64]) -> u64
     requires fits { type_fits sound.now.layout sound.now.sizes base.now ≡ true }
     requires leads { path_leads sound.now.«module».types base.now (map (modulo sound.now.layout.pointer) indices.now) ≡ true }
@@ -156,7 +144,7 @@ pub fn symbol_address(addresses: &[u32], symbol: &Symbol) -> u64
 }
 
 /// The address of a place that the module has. The addresses are those of the module's globals, in their order.
-#[tactic(auto, using(crate::proofs::Parts::place_sum))]
+#[tactic(auto, using(no_sound::proofs::Parts::place_sum))]
 pub fn place_address(sound: &Sound, addresses: &[u32], place: &Place) -> u64
     requires { place_fits sound.now.«module» sound.now.layout sound.now.sizes place.now ≡ true }
     ensures value { result ≡ place_number sound.now.layout sound.now.sizes sound.now.«module».types addresses.now place.now }

@@ -18,7 +18,7 @@ fn has_symbol(program: &Module, symbol: &Symbol) -> bool
 }
 
 /// Whether a place in a constant is one that the module has.
-#[tactic(auto, using(crate::proofs::Facts::pointer_some, crate::proofs::Facts::pointer_most))]
+#[tactic(auto, using(no_sound::proofs::Facts::pointer_some, no_sound::proofs::Facts::pointer_most))]
 pub fn has_place(program: &Module, layout: &Layout, sizes: &Sizes, place: &Place) -> bool
     requires { IsTrue (is_formed layout.now) }
     ensures { result ≡ place_fits program.now layout.now sizes.now place.now }

@@ -16,7 +16,7 @@ use Rattle.no_room.specs.Accepted.{Accepted}
 use Rattle.no_verify_types.specs.Places.{fault_at}
 use Rattle.no_verify_types.specs.declared.place.FaultPlace.{FaultPlace}
 use Rattle.no_verify.specs.Kinds.{IsPlace, IsUnassignedAt, IsUnassignedPlace}
-use Rattle.no_verify.specs.Verdict.{AreNowhere, IsAccepted, IsFaulty, IsFirstFault, IsVerdict, judged_kinds, place_of}
+use Rattle.no_verify.specs.Verdict.{Accepts, AreNowhere, Answers, Faulty, IsAccepted, IsFaulty, IsFirstFault, IsVerdict, Unstated, Verdict, judged_kinds, place_of}
 use Rattle.no_verify.specs.declared.fault.VerifyError.{VerifyError}
 use Rattle.no_verify.specs.declared.fault.VerifyError.TheVariants as error
 use Rattle.no_verify.specs.declared.fault.VerifyFault.{VerifyFault}
@@ -132,20 +132,21 @@ module _ (m : Module) (role : Role) where
       let first : IsFirstFault (IsPlace q.layout m role) judged_kinds f = subst (λ (l : Layout). IsFirstFault (IsPlace l m role) judged_kinds f) same p.first in
       first_once (IsPlace q.layout m role) (place_once q.layout m role) judged_kinds f g first q.first
 
-  -- two verdicts on a module are the same, but where one is want of memory
-  pub verdict_once : (v w : Result Accepted VerifyError) → IsVerdict m role v → IsVerdict m role w → (v ≡ Err error.NoMemory) ⊎ ((w ≡ Err error.NoMemory) ⊎ (v ≡ w))
-  verdict_once (Err error.NoMemory) w p q = inl refl
-  verdict_once (Ok a) (Ok b) p q = inr (inr (ap (λ (x : Accepted). let r : Result Accepted VerifyError = Ok x in r) (accepted_once a b p q)))
-  verdict_once (Ok a) (Err (error.Layout f)) p q = absurd (ok_or_err a.layout f (layout_of m.layout) p.layout q)
-  verdict_once (Ok a) (Err (error.Fault f)) p q = absurd (accepted_or_faulty a f p q)
-  verdict_once (Ok a) (Err error.NoMemory) p q = inr (inl refl)
-  verdict_once (Err (error.Layout f)) (Ok b) p q = absurd (ok_or_err b.layout f (layout_of m.layout) q.layout p)
-  verdict_once (Err (error.Layout f)) (Err (error.Layout g)) p q =
-      inr (inr (ap (λ (x : LayoutFault). let r : Result Accepted VerifyError = Err (error.Layout x) in r) (from_err f g (layout_of m.layout) p q)))
-  verdict_once (Err (error.Layout f)) (Err (error.Fault g)) p q = absurd (ok_or_err q.layout f (layout_of m.layout) q.stated p)
-  verdict_once (Err (error.Layout f)) (Err error.NoMemory) p q = inr (inl refl)
-  verdict_once (Err (error.Fault f)) (Ok b) p q = absurd (accepted_or_faulty b f q p)
-  verdict_once (Err (error.Fault f)) (Err (error.Layout g)) p q = absurd (ok_or_err p.layout g (layout_of m.layout) p.stated q)
-  verdict_once (Err (error.Fault f)) (Err (error.Fault g)) p q =
-      inr (inr (ap (λ (x : VerifyFault). let r : Result Accepted VerifyError = Err (error.Fault x) in r) (faulty_once f g p q)))
-  verdict_once (Err (error.Fault f)) (Err error.NoMemory) p q = inr (inl refl)
+  -- a module has one verdict
+  pub verdict_once : (v w : Verdict) → IsVerdict m role v → IsVerdict m role w → v ≡ w
+  verdict_once (Accepts a) (Accepts b) p q = ap (λ (x : Accepted). let v : Verdict = Accepts x in v) (accepted_once a b p q)
+  verdict_once (Accepts a) (Unstated f) p q = absurd (ok_or_err a.layout f (layout_of m.layout) p.layout q)
+  verdict_once (Accepts a) (Faulty f) p q = absurd (accepted_or_faulty a f p q)
+  verdict_once (Unstated f) (Accepts b) p q = absurd (ok_or_err b.layout f (layout_of m.layout) q.layout p)
+  verdict_once (Unstated f) (Unstated g) p q = ap (λ (x : LayoutFault). let v : Verdict = Unstated x in v) (from_err f g (layout_of m.layout) p q)
+  verdict_once (Unstated f) (Faulty g) p q = absurd (ok_or_err q.layout f (layout_of m.layout) q.stated p)
+  verdict_once (Faulty f) (Accepts b) p q = absurd (accepted_or_faulty b f q p)
+  verdict_once (Faulty f) (Unstated g) p q = absurd (ok_or_err p.layout g (layout_of m.layout) p.stated q)
+  verdict_once (Faulty f) (Faulty g) p q = ap (λ (x : VerifyFault). let v : Verdict = Faulty x in v) (faulty_once f g p q)
+
+  -- so a verdict that is answered is the one
+  pub answered : (r : Result Accepted VerifyError) → Answers r (IsVerdict m role) → (v : Verdict) → IsVerdict m role v → Answers r (λ found. found ≡ v)
+  answered (Ok a) p v is = verdict_once (Accepts a) v p is
+  answered (Err (error.Layout f)) p v is = verdict_once (Unstated f) v p is
+  answered (Err (error.Fault f)) p v is = verdict_once (Faulty f) v p is
+  answered (Err error.NoMemory) p v is = tt

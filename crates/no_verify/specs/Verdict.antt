@@ -4,6 +4,7 @@ use Rattle.no_ir.specs.declared.function.Module.{Module}
 use Rattle.no_ir.specs.declared.function.Role.{Role}
 use Rattle.no_layout.specs.Sizes.{sizes_of}
 use Rattle.no_layout.specs.Text.{layout_of}
+use Rattle.no_layout.specs.declared.fault.LayoutFault.{LayoutFault}
 use Rattle.no_layout.specs.declared.layout.Layout.{Layout}
 use Rattle.no_module.specs.Formed.{IsFormed}
 use Rattle.no_module.specs.Marks.{MarksAllowed}
@@ -67,9 +68,21 @@ pub record IsFaulty (m : Module) (role : Role) (fault : VerifyFault) : Type 0 wh
   pub stated : layout_of m.layout ≡ Ok layout
   pub first : IsFirstFault (IsPlace layout m role) judged_kinds fault
 
--- the layout is judged first, then the kinds in their order; want of memory alone is free
-abbrev pub IsVerdict : Module → Role → Result Accepted VerifyError → Type 0
-IsVerdict m role (Ok a) = IsAccepted m role a
-IsVerdict m role (Err (error.Layout fault)) = layout_of m.layout ≡ Err fault
-IsVerdict m role (Err (error.Fault fault)) = IsFaulty m role fault
-IsVerdict m role (Err error.NoMemory) = Unit {0}
+-- the verdict on a module: it is accepted, its string states no layout, or it has a first fault
+pub data Verdict : Type 0 where
+  Accepts : (accepted : Accepted) → Verdict
+  Unstated : (fault : LayoutFault) → Verdict
+  Faulty : (fault : VerifyFault) → Verdict
+
+-- the layout is judged first, then the kinds in their order
+abbrev pub IsVerdict : Module → Role → Verdict → Type 0
+IsVerdict m role (Accepts a) = IsAccepted m role a
+IsVerdict m role (Unstated fault) = layout_of m.layout ≡ Err fault
+IsVerdict m role (Faulty fault) = IsFaulty m role fault
+
+-- what is said of an answer as a verdict, unless memory ran out
+abbrev pub Answers : Result Accepted VerifyError → (Verdict → Type 0) → Type 0
+Answers (Ok a) P = P (Accepts a)
+Answers (Err (error.Layout fault)) P = P (Unstated fault)
+Answers (Err (error.Fault fault)) P = P (Faulty fault)
+Answers (Err error.NoMemory) P = Unit {0}

@@ -3,10 +3,9 @@
 
 mod fault;
 mod judge;
-mod sound;
 mod unassigned;
 mod verdict;
 
 pub use fault::{VerifyError, VerifyFault, VerifyKind};
-pub use sound::Sound;
+pub use no_sound::Sound;
 pub use verdict::verify;

@@ -2,12 +2,13 @@ ghost use Rattle.std.specs.Prelude.{◌≡◌, Ok, true};
 ghost use Rattle.no_layout.specs.Text.{is_formed, layout_of};
 ghost use Rattle.no_module.specs.Formed.{IsFormed};
 ghost use Rattle.no_module.specs.Marks.{MarksAllowed};
-ghost use Rattle.no_verify.specs.Verdict.{IsVerdict};
+ghost use Rattle.no_verify.specs.Verdict.{Answers, IsVerdict, Verdict};
 
 use crate::judge::{fault_of, later_fault};
-use crate::{Sound, VerifyError, VerifyKind};
+use crate::{VerifyError, VerifyKind};
 use no_ir::{Module, Role};
 use no_layout::Layout;
+use no_sound::Sound;
 use no_verify_structure::large_fault;
 use std::alloc::Global;
 
@@ -17,10 +18,22 @@ use std::alloc::Global;
 ///
 /// The module is formed, and a source has no instruction that the partition made and no address of the device, as the reader
 /// gives it.
+#[tactic(auto, using(crate::proofs::Unique::answered))]
 pub fn verify(alloc: Global, program: Module, role: Role) -> Result<Sound, VerifyError>
     requires formed { IsFormed program }
     requires marks { MarksAllowed role program }
-    ensures { IsVerdict program role result }
+    // What is answered is the module's verdict, and it has one verdict at most.
+    ensures verdict { Answers result (IsVerdict program role) }
+    ensures only { (verdict : Verdict) → IsVerdict program role verdict → Answers result (λ found. found ≡ verdict) }
+{
+    judged(alloc, program, role)
+}
+
+/// Judges the layout, and then all else.
+fn judged(alloc: Global, program: Module, role: Role) -> Result<Sound, VerifyError>
+    requires formed { IsFormed program }
+    requires marks { MarksAllowed role program }
+    ensures { Answers result (IsVerdict program role) }
 {
     if program.layout.len() > 0xFFFF_FFFF {
         return Err(VerifyError::NoMemory);
@@ -37,7 +50,7 @@ fn under(alloc: Global, program: Module, layout: Layout, role: Role) -> Result<S
     requires stated { is_formed layout ≡ true }
     requires formed { IsFormed program }
     requires marks { MarksAllowed role program }
-    ensures { IsVerdict program role result }
+    ensures { Answers result (IsVerdict program role) }
 {
     let sizes = match large_fault(alloc, &layout, &program) {
         Err(_) => return Err(VerifyError::NoMemory),

@@ -23,8 +23,8 @@ use Rattle.no_verify_types.specs.Constants as typing
 use Rattle.no_verify_structure.specs.Large.{base_fits}
 use Rattle.no_verify_structure.specs.Parts as parts
 use Rattle.no_verify_structure.specs.Unknown.{place_known}
-use Rattle.no_image.specs.Fits as image
-use Rattle.no_runnable.proofs.Places.{typed_place}
+use Rattle.no_sound.specs.Image as image
+use Rattle.no_verify.proofs.Places.{typed_place}
 
 -- ---- integer types and ptr
 

@@ -27,13 +27,13 @@ use Rattle.no_verify_structure.specs.Parts.{constant_keeps, operands_keep, types
 use Rattle.no_verify_structure.specs.Unknown.{function_unknown, global_known, instr_known, place_known}
 use Rattle.no_verify.specs.Verdict.{IsAccepted}
 use Rattle.no_verify.specs.declared.fault.VerifyKind.TheVariants as kind
-use Rattle.no_semantics.specs.Sound as sound
-use Rattle.no_image.specs.Fits as image
-use Rattle.no_runnable.proofs.Images.{begins}
-use Rattle.no_runnable.proofs.Layouts.{layout_formed}
-use Rattle.no_runnable.proofs.Lists.{all_both, all_more, all_of, blocks_keep, blocks_right, each_both, each_more, each_of, functions_keep, functions_right, head_keeps, whole_keeps}
-use Rattle.no_runnable.proofs.Ops.{align_ok, op_ok}
-use Rattle.no_runnable.proofs.Tables.{table_is}
+use Rattle.no_sound.specs.Sound as sound
+use Rattle.no_sound.specs.Image as image
+use Rattle.no_verify.proofs.Images.{begins}
+use Rattle.no_verify.proofs.Layouts.{layout_formed}
+use Rattle.no_verify.proofs.Lists.{all_both, all_more, all_of, blocks_keep, blocks_right, each_both, each_more, each_of, functions_keep, functions_right, head_keeps, whole_keeps}
+use Rattle.no_verify.proofs.Ops.{align_ok, op_ok}
+use Rattle.no_verify.proofs.Tables.{table_is}
 
 -- where a list of globals keeps a rule, the first fault is in a function
 first_kept : (b : Bool) (more : Option FaultPlace) (other : FaultPlace) → (if b then more else Some other) ≡ None → (b ≡ true) × (more ≡ None)

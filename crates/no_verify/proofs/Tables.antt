@@ -13,8 +13,8 @@ use Rattle.no_layout.specs.declared.extent.Extent.{Extent}
 use Rattle.no_layout.specs.declared.layout.Layout.{Layout}
 use Rattle.no_layout.proofs.Lower.{extent_whole, fits_whole}
 use Rattle.no_room.specs.Fits.{type_fits}
-use Rattle.no_semantics.specs.Sound.{entry_holds, table_holds}
-use Rattle.no_semantics.proofs.Parts.{measured, named_is}
+use Rattle.no_sound.specs.Sound.{entry_holds, table_holds}
+use Rattle.no_sound.proofs.Parts.{measured, named_is}
 use Rattle.no_verify_structure.specs.Finding.{first_break}
 use Rattle.no_verify_structure.specs.Large.{named_fit}
 

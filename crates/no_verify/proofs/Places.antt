@@ -24,8 +24,8 @@ use Rattle.no_verify_structure.specs.Large.{base_fits}
 use Rattle.no_verify_structure.specs.Parts.{constant_keeps, operand_keeps}
 use Rattle.no_verify_structure.specs.Unknown.{place_known, symbol_known}
 use Rattle.no_verify_types.specs.Typing.{operand_fits}
-use Rattle.no_semantics.specs.Indices as run
-use Rattle.no_semantics.specs.Sound as sound
+use Rattle.no_sound.specs.Indices as run
+use Rattle.no_sound.specs.Sound as sound
 
 -- ---- where indices lead
 

@@ -36,11 +36,11 @@ use Rattle.no_verify_types.specs.Typing.{argument_fits, bare_function, both_fit,
 use Rattle.no_verify_structure.specs.Large.{base_fits}
 use Rattle.no_verify_structure.specs.Parts.{constant_keeps, operand_keeps, operands_of, types_of}
 use Rattle.no_verify_structure.specs.Unknown.{place_known}
-use Rattle.no_semantics.specs.Indices as run
-use Rattle.no_semantics.specs.Sound as sound
-use Rattle.no_semantics.specs.Values.{width_of, width_step}
-use Rattle.no_runnable.proofs.Lists.{all_both}
-use Rattle.no_runnable.proofs.Places.{led, operand_ok, place_ok}
+use Rattle.no_sound.specs.Indices as run
+use Rattle.no_sound.specs.Sound as sound
+use Rattle.no_sound.specs.Widths.{width_of, width_step}
+use Rattle.no_verify.proofs.Lists.{all_both}
+use Rattle.no_verify.proofs.Places.{led, operand_ok, place_ok}
 
 none_some : {A : Type 0} (x : A) → None ≡ Some x → ⊥
 none_some x e = absurd cc

@@ -1,14 +1,16 @@
 ghost use Rattle.std.specs.Prelude.{◌≡◌, IsTrue, true};
 ghost use Rattle.std.specs.Option.{option_copied, IfSome};
 ghost use Rattle.no_layout.specs.Text.{is_formed};
-ghost use Rattle.no_semantics.specs.Sound.{block_fits, is_sound};
-ghost use Rattle.no_semantics.specs.States.{block_in};
+ghost use Rattle.no_sound.specs.Blocks.{block_in};
+ghost use Rattle.no_sound.specs.Image.{has_image, image_fits};
+ghost use Rattle.no_sound.specs.Sound.{block_fits, is_sound};
 
-use no_ir::{Block, Module, Role};
+use no_ir::{Block, GlobalVar, Module, Role};
 use no_layout::{Layout, Sizes};
 use std::marker::Model;
 
-/// A module that was accepted, with its data layout, the sizes of its named types, and its role.
+/// A module that was accepted, with its data layout, the sizes of its named types, and its role. The verifier makes it, and all
+/// that runs, places or judges a program takes it.
 #[derive(Drop)]
 pub struct Sound {
     inner: Module,
@@ -19,8 +21,9 @@ pub struct Sound {
 
 impl Model for Sound {
     ghost use Rattle.std.specs.Prelude.{◌≡◌, true};
-    ghost use Rattle.no_semantics.specs.Accepted.{Accepted};
-    ghost use Rattle.no_semantics.specs.Sound.{is_sound};
+    ghost use Rattle.no_room.specs.Accepted.{Accepted};
+    ghost use Rattle.no_sound.specs.Image.{has_image};
+    ghost use Rattle.no_sound.specs.Sound.{is_sound};
 
     ghost Value = { Accepted };
 
@@ -32,13 +35,15 @@ impl Model for Sound {
 
     ghost view = { λ s. record { «module» = s.inner; layout = s.layout; sizes = s.sizes; role = s.role } };
 
-    ghost invariant = { λ s. is_sound s.inner s.layout s.sizes ≡ true };
+    ghost invariant = { λ s. (is_sound s.inner s.layout s.sizes ≡ true) × (has_image s.inner s.layout s.sizes ≡ true) };
 }
 
 impl Sound {
-    /// The module with its layout, the sizes that `Layout::sizes` gives for its types, and its role. It takes no memory.
+    /// The module with its layout, the sizes that `Layout::sizes` gives for its types, and its role: a machine runs each of its
+    /// instructions, and its first memory can be made. It takes no memory.
     pub fn of(program: Module, layout: Layout, sizes: Sizes, role: Role) -> Sound
-        requires { is_sound program layout sizes ≡ true }
+        requires runs { is_sound program layout sizes ≡ true }
+        requires begins { has_image program layout sizes ≡ true }
         ensures { result ≡ record { «module» = program; layout = layout; sizes = sizes; role = role } }
     {
         Sound {
@@ -54,6 +59,15 @@ impl Sound {
         ensures sound { is_sound result.now self.now.layout self.now.sizes ≡ true }
     {
         &self.inner
+    }
+
+    /// The module's globals, for which there is room, with first values of their types.
+    pub fn globals(&self) -> &[GlobalVar]
+        ensures value { result.now ≡ self.now.«module».globals }
+        ensures fits { image_fits self.now.layout self.now.sizes self.now.«module».globals ≡ true }
+        ensures begins { has_image self.now.«module» self.now.layout self.now.sizes ≡ true }
+    {
+        self.inner.globals.as_slice()
     }
 
     /// The layout that the module's string states.

@@ -1,5 +1,0 @@
-use Rattle.no_semantics.proofs.Facts.{layout_formed}
-use Rattle.no_semantics.proofs.sound.Sound.layout.Goals as goal
-
-pub returns-clause-formed : goal.returns-clause-formed
-returns-clause-formed c = layout_formed _ _ _ c.self.invariant
