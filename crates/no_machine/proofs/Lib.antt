@@ -25,3 +25,4 @@ pub mod Begun
 pub mod Counting
 pub mod Booting
 pub mod Supplied
+pub mod Devices

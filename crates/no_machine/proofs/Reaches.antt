@@ -74,7 +74,7 @@ module _ (a : Accepted) (addresses : List ℕ) (regions : Regions) (code : Code)
     reads_each = each_here p F code facts.is declared facts.flags externals table s at base sp slots frames here.stands C (live a addresses regions code cells constants declared big pointer facts at base sp slots frames held byte s here) into f from to known
 
     pub does : (new : List ℕ) (now : List Saved) (after : ℕ) (x : Around) → x.held ≡ held → x.byte ≡ byte → (more : List ℕ) (left : ℕ) → 1 ≤ left → s.heap ≡ x.heap → s.input ≡ x.env.input ++ more → (x.env.ended ≡ true → more ≡ []) → (q : Regions) (held' own own' : ℕ → Bool) (result : Out)
-        → ((outside : Bool) → slice_get declared f ≡ Some outside → (entry : Option External) → slice_get externals f ≡ Some entry → Invoked outside entry regions q x.held held' own own' code declared left at base into f from to (record { slots = slots; new = new; frames = frames; now = now; sp = sp; after = after }) x result)
+        → ((outside : Bool) → slice_get declared f ≡ Some outside → (entry : Option External) → slice_get externals f ≡ Some entry → Invoked outside entry a.«module».functions regions q x.held held' own own' code declared left at base into f from to (record { slots = slots; new = new; frames = frames; now = now; sp = sp; after = after }) x result)
         → Outs p result at base after new now x more s (affordable left (row p s))
     does new now after x held_is byte_is more left some heap_is input_is last q held' own own' result all =
         invoked_outs p F code facts.is declared facts.flags externals table s at base sp slots frames here.stands C (live a addresses regions code cells constants declared big pointer facts at base sp slots frames held byte s here) into f from to known new now after x more left some heap_is input_is

@@ -1,5 +1,5 @@
 -- Instructions that need something from outside: calls of externals, and calls through pointers.
-use Rattle.std.specs.Prelude.{ℕ, ◌+◌, ◌^◌, ◌<◌, ◌≤◌, ◌≡◌, ◌⊎◌, Bool, true, false, Option, Some, None, List, [], ◌++◌, drop, length, map, slice_get, slice_range}
+use Rattle.std.specs.Prelude.{ℕ, ◌+◌, ◌*◌, ◌^◌, ◌<◌, ◌≤◌, ◌≡◌, ◌⊎◌, Bool, true, false, Option, Some, None, List, [], ◌∷◌, ◌++◌, drop, length, map, slice_get, slice_range, slice_set}
 use Rattle.no_ir.specs.declared.ending.End.TheVariants as end
 use Rattle.no_ir.specs.declared.function.Function.{Function}
 use Rattle.no_ir.specs.declared.function.Module.{Module}
@@ -13,7 +13,8 @@ use Rattle.no_ir.specs.declared.ending.Trap.TheVariants.{BadFunction}
 use Rattle.no_ir.specs.declared.function.Block as Block'
 use Rattle.no_ir.specs.declared.instruction.Instr.{Instr}
 use Rattle.no_semantics.specs.Registers.{given}
-use Rattle.no_semantics.specs.Results.{Valued, Number, Traps}
+use Rattle.no_semantics.specs.Calls.{addressed_from, mapped}
+use Rattle.no_semantics.specs.Results.{Valued, Number, Traps, NoValue, lowered, stack_place}
 use Rattle.no_semantics.specs.States.{State, block_in}
 use Rattle.no_code.specs.declared.code.Code.{Code}
 use Rattle.no_code.specs.declared.code.Place.{Place}
@@ -144,7 +145,6 @@ abbrev pub out_of_turn : Turn → Out
 out_of_turn (turn.On at base) = out.On at base 1
 out_of_turn (turn.Halt stop.Grow) = out.Grow
 out_of_turn (turn.Halt (stop.Trapped t)) = out.Trapped t
-out_of_turn (turn.Halt stop.Outside) = out.Foreign
 out_of_turn (turn.Halt _) = out.NoMemory
 
 -- slots, what is kept of callers and the stack pointer, before and after
@@ -165,18 +165,51 @@ pub record HasCalledOne (code : Code) (declared : List Bool) (at base into f fro
   pub called : (r : IsReadyCall code declared (drop base k.slots) at f from to) → Called answer code r.outside r.home r.callee at base into from to k.slots k.new k.frames k.now k.sp k.after
   pub calm : IsCalm a
 
+-- ---- the two of a server's part
+
+-- the place below so many times so many bytes of an alignment, where these are the arguments
+abbrev pub room_value : ℕ → List ℕ → Valued
+room_value sp (n ∷ size ∷ align ∷ []) = stack_place (lowered sp (n * size) align)
+room_value sp _ = NoValue
+
+-- the number to call for an address of the device, where this is the argument
+abbrev pub map_value : List Function → List ℕ → Valued
+map_value functions (at ∷ []) = Number (mapped (addressed_from 0 functions at))
+map_value functions _ = NoValue
+
+-- a number became the result of the call of a cell, and this stack pointer comes then
+pub record HasYielded (value : Valued) (sp_after : ℕ → ℕ) (at base place to there cost : ℕ) (k : Stack) : Type 0 where
+  pub number : ℕ
+  pub is : value ≡ Number number
+  pub next : to ≡ at + 1
+  pub same_base : there ≡ base
+  pub one : cost ≡ 1
+  pub given : k.new ≡ slice_set k.slots place number
+  pub same_frames : k.now ≡ k.frames
+  pub stack : k.after ≡ sp_after number
+
+-- what an external did that gives a value, by its answer
+abbrev pub Yields : Valued → (ℕ → ℕ) → ℕ → ℕ → ℕ → Stack → Out → Type 0
+Yields value sp_after at base place k (out.On to there cost) = HasYielded value sp_after at base place to there cost k
+Yields value sp_after at base place k (out.Trapped t) = (value ≡ Traps t) × IsUntouchedStack k
+Yields value sp_after at base place k out.Stuck = value ≡ NoValue
+Yields value sp_after at base place k out.NoMemory = IsUntouchedStack k
+Yields value sp_after at base place k _ = ⊥
+
 -- what a call of an external did, by what the external is
-abbrev pub DoesExternal : Option External → Regions → Regions → (ℕ → Bool) → (ℕ → Bool) → (ℕ → Bool) → (ℕ → Bool) → Code → ℕ → ℕ → ℕ → ℕ → ℕ → ℕ → Stack → Around → Out → Type 0
-DoesExternal None r q held held' own own' code left at base into from to k a result = result ≡ out.Stuck
-DoesExternal (Some external.Alloca) r q held held' own own' code left at base into from to k a result = (result ≡ out.Foreign) × IsUntouchedStack k × IsCalm a
-DoesExternal (Some external.Map) r q held held' own own' code left at base into from to k a result = (result ≡ out.Foreign) × IsUntouchedStack k × IsCalm a
-DoesExternal (Some which) r q held held' own own' code left at base into from to k a result =
+abbrev pub DoesExternal : Option External → List Function → Regions → Regions → (ℕ → Bool) → (ℕ → Bool) → (ℕ → Bool) → (ℕ → Bool) → Code → ℕ → ℕ → ℕ → ℕ → ℕ → ℕ → Stack → Around → Out → Type 0
+DoesExternal None functions r q held held' own own' code left at base into from to k a result = result ≡ out.Stuck
+DoesExternal (Some external.Alloca) functions r q held held' own own' code left at base into from to k a result =
+    IsCalm a × Yields (room_value k.sp (map (argument_in (drop base k.slots) code.constants) (slice_range code.arguments from to))) (λ n. n) at base (base + into) k result
+DoesExternal (Some external.Map) functions r q held held' own own' code left at base into from to k a result =
+    IsCalm a × Yields (map_value functions (map (argument_in (drop base k.slots) code.constants) (slice_range code.arguments from to))) (λ n. k.sp) at base (base + into) k result
+DoesExternal (Some which) functions r q held held' own own' code left at base into from to k a result =
     (k.now ≡ k.frames) × (k.after ≡ k.sp) × Serves which r held own own' held' q a (map (argument_in (drop base k.slots) code.constants) (slice_range code.arguments from to)) left at base into k.slots k.new result
 
 -- what a call did, by whether the function is declared
-abbrev pub Invoked : Bool → Option External → Regions → Regions → (ℕ → Bool) → (ℕ → Bool) → (ℕ → Bool) → (ℕ → Bool) → Code → List Bool → ℕ → ℕ → ℕ → ℕ → ℕ → ℕ → ℕ → Stack → Around → Out → Type 0
-Invoked false entry r q held held' own own' code declared left at base into f from to k a result = HasCalledOne code declared at base into f from to k a result
-Invoked true entry r q held held' own own' code declared left at base into f from to k a result = DoesExternal entry r q held held' own own' code left at base into from to k a result
+abbrev pub Invoked : Bool → Option External → List Function → Regions → Regions → (ℕ → Bool) → (ℕ → Bool) → (ℕ → Bool) → (ℕ → Bool) → Code → List Bool → ℕ → ℕ → ℕ → ℕ → ℕ → ℕ → ℕ → Stack → Around → Out → Type 0
+Invoked false entry functions r q held held' own own' code declared left at base into f from to k a result = HasCalledOne code declared at base into f from to k a result
+Invoked true entry functions r q held held' own own' code declared left at base into f from to k a result = DoesExternal entry functions r q held held' own own' code left at base into from to k a result
 
 -- ---- calls through pointers
 

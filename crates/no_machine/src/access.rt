@@ -89,7 +89,7 @@ fn lower(sp: u32, bytes: u64, align: u64) -> Option<u32>
 }
 
 /// The stack pointer below so many values of a size.
-fn lower_by(sp: u32, count: u64, stride: u64, align: u64) -> Option<u32>
+pub(crate) fn lower_by(sp: u32, count: u64, stride: u64, align: u64) -> Option<u32>
     requires { 0 < align }
     ensures { result ≡ lowered sp (count * stride) align }
 {

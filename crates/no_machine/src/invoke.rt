@@ -5,6 +5,7 @@ ghost use Rattle.no_machine.specs.Slots.{IsSlotIn};
 ghost use Rattle.no_machine.specs.Outside.{DoesExternal, Invoked, IsReadyInvoke, out_of_turn};
 
 use crate::calls::call;
+use crate::device::{call_alloca, call_map};
 use crate::frame::Saved;
 use crate::out::Out;
 use crate::serve::call_library;
@@ -14,6 +15,7 @@ use no_heap::Heap;
 use no_layout::Memory;
 use no_lib::Env;
 use no_module::External;
+use no_semantics::Sound;
 
 /// What comes of a call of a defined function.
 fn out_of_turn(turn: Turn) -> Out
@@ -23,7 +25,6 @@ fn out_of_turn(turn: Turn) -> Out
         Turn::On(at, base) => Out::On(at, base, 1),
         Turn::Halt(Stop::Grow) => Out::Grow,
         Turn::Halt(Stop::Trapped(trap)) => Out::Trapped(trap),
-        Turn::Halt(Stop::Outside) => Out::Foreign,
         Turn::Halt(_) => Out::NoMemory,
     }
 }
@@ -50,6 +51,7 @@ fn call_external<M: Memory>(
     constants: &[u64],
     declared: &[bool],
     externals: &[Option<External>],
+    sound: &Sound,
     entry: Option<External>,
     slots: &mut [u64],
     frames: &mut Vec<Saved>,
@@ -69,15 +71,19 @@ fn call_external<M: Memory>(
     requires same { constants.now ≡ code.now.constants }
     requires ready { IsReadyInvoke code.now declared.now externals.now slots.old at base into f from to }
     requires each { (k : ℕ) → (a : Argument) → slice_get (slice_range code.now.arguments from to) k ≡ Some a → IsSlotIn (drop base slots.old) code.now.constants a.slot }
-    ensures does { DoesExternal entry (M.regions mem.old) (M.regions mem.new) (M.held mem.old) (M.held mem.new) (M.own mem.old) (M.own mem.new) code.now left at base into from to (record { slots = slots.old; new = slots.new; frames = frames.old.items; now = frames.new.items; sp = sp.old; after = sp.new }) (record { held = M.held mem.old; byte = M.byte mem.old; after = M.byte mem.new; heap = heap.old; heap_after = heap.new; env = env.old; env_after = env.new }) result }
+    ensures does { DoesExternal entry sound.now.«module».functions (M.regions mem.old) (M.regions mem.new) (M.held mem.old) (M.held mem.new) (M.own mem.old) (M.own mem.new) code.now left at base into from to (record { slots = slots.old; new = slots.new; frames = frames.old.items; now = frames.new.items; sp = sp.old; after = sp.new }) (record { held = M.held mem.old; byte = M.byte mem.old; after = M.byte mem.new; heap = heap.old; heap_after = heap.new; env = env.old; env_after = env.new }) result }
     ensures regions { M.regions mem.new ≡ M.regions mem.old }
     ensures held { M.held mem.new ≡ M.held mem.old }
     ensures ended { env.new.ended ≡ env.old.ended }
 {
     match entry {
         None => Out::Stuck,
-        Some(External::Alloca) => Out::Foreign,
-        Some(External::Map) => Out::Foreign,
+        Some(External::Alloca) => call_alloca(
+            code, constants, slots, numbers, sp, at, base, into, from, to,
+        ),
+        Some(External::Map) => call_map(
+            code, constants, sound, slots, numbers, at, base, into, from, to,
+        ),
         Some(which) => call_library(
             code, constants, which, slots, at, base, into, from, to, numbers, left, mem, heap, env,
         ),
@@ -90,6 +96,7 @@ pub(crate) fn invoke<M: Memory>(
     constants: &[u64],
     declared: &[bool],
     externals: &[Option<External>],
+    sound: &Sound,
     slots: &mut [u64],
     frames: &mut Vec<Saved>,
     numbers: &mut Vec<u64>,
@@ -108,7 +115,7 @@ pub(crate) fn invoke<M: Memory>(
     requires same { constants.now ≡ code.now.constants }
     requires ready { IsReadyInvoke code.now declared.now externals.now slots.old at base into f from to }
     requires each { (k : ℕ) → (a : Argument) → slice_get (slice_range code.now.arguments from to) k ≡ Some a → IsSlotIn (drop base slots.old) code.now.constants a.slot }
-    ensures invoked { (outside : Bool) → slice_get declared.now f ≡ Some outside → (entry : Option External) → slice_get externals.now f ≡ Some entry → Invoked outside entry (M.regions mem.old) (M.regions mem.new) (M.held mem.old) (M.held mem.new) (M.own mem.old) (M.own mem.new) code.now declared.now left at base into f from to (record { slots = slots.old; new = slots.new; frames = frames.old.items; now = frames.new.items; sp = sp.old; after = sp.new }) (record { held = M.held mem.old; byte = M.byte mem.old; after = M.byte mem.new; heap = heap.old; heap_after = heap.new; env = env.old; env_after = env.new }) result }
+    ensures invoked { (outside : Bool) → slice_get declared.now f ≡ Some outside → (entry : Option External) → slice_get externals.now f ≡ Some entry → Invoked outside entry sound.now.«module».functions (M.regions mem.old) (M.regions mem.new) (M.held mem.old) (M.held mem.new) (M.own mem.old) (M.own mem.new) code.now declared.now left at base into f from to (record { slots = slots.old; new = slots.new; frames = frames.old.items; now = frames.new.items; sp = sp.old; after = sp.new }) (record { held = M.held mem.old; byte = M.byte mem.old; after = M.byte mem.new; heap = heap.old; heap_after = heap.new; env = env.old; env_after = env.new }) result }
     ensures regions { M.regions mem.new ≡ M.regions mem.old }
     ensures held { M.held mem.new ≡ M.held mem.old }
     ensures ended { env.new.ended ≡ env.old.ended }
@@ -116,8 +123,8 @@ pub(crate) fn invoke<M: Memory>(
     if is_declared(declared, f) {
         let entry = external_at(externals, f);
         return call_external(
-            code, constants, declared, externals, entry, slots, frames, numbers, sp, mem, heap,
-            env, at, base, into, f, from, to, left,
+            code, constants, declared, externals, sound, entry, slots, frames, numbers, sp, mem,
+            heap, env, at, base, into, f, from, to, left,
         );
     }
     let turn = call(

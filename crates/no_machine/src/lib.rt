@@ -6,6 +6,7 @@ mod act;
 mod begin;
 mod boot;
 mod calls;
+mod device;
 mod did;
 mod edges;
 mod facts;
