@@ -29,10 +29,22 @@ own_of Absent = []
 own_of Zeros = []
 own_of (Own b) = b.value
 
+-- a number is read where the page is present
+abbrev pub IsHeldNumber : Option ℕ → List ℕ → Slot → Bool → ℕ → ℕ → Type 0
+IsHeldNumber None z s big n o = Unit {0}
+IsHeldNumber (Some v) z s big n o = (is_held s.bytes ≡ true) × (length (list_of z s.bytes) ≡ 4096) × (v ≡ number_of big (take n (drop o (list_of z s.bytes))))
+
 -- a number is read where it can be
 abbrev pub IsNumberAt : Option ℕ → List ℕ → Slot → Bool → ℕ → ℕ → Type 0
 IsNumberAt None z s big n o = Unit {0}
 IsNumberAt (Some v) z s big n o = (s.kind ≢ Mixed) × (is_held s.bytes ≡ true) × (length (list_of z s.bytes) ≡ 4096) × (v ≡ number_of big (take n (drop o (list_of z s.bytes))))
+
+-- bytes are written where the page has bytes of its own
+abbrev pub IsSetIn : Bool → Slot → Slot → ℕ → List ℕ → Type 0
+IsSetIn false old new o bs = new ≡ old
+IsSetIn true old new o bs =
+    (is_own old.bytes ≡ true) × (length (own_of old.bytes) ≡ 4096)
+    × (new.kind ≡ old.kind) × (is_own new.bytes ≡ true) × (new.dirty ≡ true) × (own_of new.bytes ≡ splice (own_of old.bytes) o bs)
 
 -- bytes are written where they can be
 abbrev pub IsStoredIn : Bool → Slot → Slot → ℕ → List ℕ → Type 0

@@ -6,6 +6,7 @@ mod held;
 mod judge;
 mod make;
 mod memory;
+mod part;
 mod ranges;
 mod slot;
 mod table;

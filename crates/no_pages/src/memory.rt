@@ -65,12 +65,13 @@ impl PageTable {
     fn load_slowly(&self, big: bool, width: Width, addr: u64) -> Loaded
         ensures { IsLoaded result (regions_of self.now) (held_of self.now) (byte_of self.now) big addr (width_of width) }
     {
+        if let Some(value) = self.part_load(big, width, addr) {
+            return Loaded::Value(value);
+        }
         let mut buffer = [0; 8];
         self.number_into(big, width, addr, &mut buffer[..width.bytes()])
     }
 
-    #[cold]
-    #[inline(never)]
     fn store_slowly(&mut self, big: bool, width: Width, addr: u64, value: u64) -> Stored
         requires { value < 256 ^ width_of width }
         ensures stored { IsStored result (regions_of self.old) (held_of self.old) (byte_of self.old) (byte_of self.new) big addr (width_of width) value }
@@ -84,6 +85,24 @@ impl PageTable {
         let bytes = &mut buffer[..width.bytes()];
         put_number(big, width, value, bytes);
         self.write(addr, bytes)
+    }
+
+    #[cold]
+    #[inline(never)]
+    fn store_otherwise(&mut self, big: bool, width: Width, addr: u64, value: u64) -> Stored
+        requires { value < 256 ^ width_of width }
+        ensures stored { IsStored result (regions_of self.old) (held_of self.old) (byte_of self.old) (byte_of self.new) big addr (width_of width) value }
+        ensures dirty { IsMarked result (dirty_of self.old) (dirty_of self.new) addr (width_of width) }
+        ensures enough { result ≡ Stored.NoMemory → IsShared (own_of self.old) addr (width_of width) }
+        ensures regions { regions_of self.new ≡ regions_of self.old }
+        ensures held { held_of self.new ≡ held_of self.old }
+        ensures own { (p : ℕ) → own_of self.old p ≡ true → own_of self.new p ≡ true }
+    {
+        if self.part_store(big, width, addr, value) {
+            Stored::Done
+        } else {
+            self.store_slowly(big, width, addr, value)
+        }
     }
 }
 
@@ -123,7 +142,7 @@ impl Memory for PageTable {
         if self.try_store(big, width, addr, value) {
             Stored::Done
         } else {
-            self.store_slowly(big, width, addr, value)
+            self.store_otherwise(big, width, addr, value)
         }
     }
 

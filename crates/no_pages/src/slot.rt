@@ -2,7 +2,7 @@ ghost use Rattle.std.specs.Prelude.{◌≡◌, ◌+◌, ◌≤◌, ◌<◌, ◌^
 ghost use Rattle.no_layout.specs.Memory.{splice};
 ghost use Rattle.no_layout.specs.Orders.{bytes_of, number_of};
 ghost use Rattle.no_layout.specs.Width.{width_of};
-ghost use Rattle.no_pages.specs.Slot.{IsLaidIn, IsNumberAt, IsPutIn, IsStoredIn, is_own};
+ghost use Rattle.no_pages.specs.Slot.{IsHeldNumber, IsLaidIn, IsNumberAt, IsPutIn, IsSetIn, IsStoredIn, is_own};
 
 use no_layout::{Width, get_number, put_number};
 
@@ -35,6 +35,29 @@ pub struct Slot {
 }
 
 impl Slot {
+    /// The number at a place, where the page is present.
+    #[inline(always)]
+    pub fn held_number(
+        &self,
+        zeros: &[u8; 4096],
+        big: bool,
+        width: Width,
+        offset: usize,
+    ) -> Option<u64>
+        requires { offset + width_of width ≤ 4096 }
+        ensures { IsHeldNumber result zeros.now self.now big (width_of width) offset }
+    {
+        match &self.bytes {
+            Bytes::Own(bytes) => Some(get_number(
+                big,
+                width,
+                &bytes[offset..offset + width.bytes()],
+            )),
+            Bytes::Zeros => Some(get_number(big, width, &zeros[offset..offset + width.bytes()])),
+            Bytes::Absent => None,
+        }
+    }
+
     /// The number at a place, where the page is present and all of it may be read.
     #[inline(always)]
     pub fn number(&self, zeros: &[u8; 4096], big: bool, width: Width, offset: usize) -> Option<u64>
@@ -43,19 +66,29 @@ impl Slot {
     {
         match self.kind {
             Kind::Mixed => None,
-            Kind::Constant | Kind::Writable => match &self.bytes {
-                Bytes::Own(bytes) => Some(get_number(
+            Kind::Constant | Kind::Writable => self.held_number(zeros, big, width, offset),
+        }
+    }
+
+    /// Writes a number at a place, where the page has bytes of its own.
+    #[inline(always)]
+    pub fn set_own_number(&mut self, big: bool, width: Width, offset: usize, value: u64) -> bool
+        requires place { offset + width_of width ≤ 4096 }
+        requires fits { value < 256 ^ width_of width }
+        ensures { IsSetIn result self.old self.new offset (bytes_of big (width_of width) value) }
+    {
+        match &mut self.bytes {
+            Bytes::Own(bytes) => {
+                put_number(
                     big,
                     width,
-                    &bytes[offset..offset + width.bytes()],
-                )),
-                Bytes::Zeros => Some(get_number(
-                    big,
-                    width,
-                    &zeros[offset..offset + width.bytes()],
-                )),
-                Bytes::Absent => None,
-            },
+                    value,
+                    &mut bytes[offset..offset + width.bytes()],
+                );
+                self.dirty = true;
+                true
+            }
+            _ => false,
         }
     }
 
@@ -67,19 +100,7 @@ impl Slot {
         ensures { IsStoredIn result self.old self.new offset (bytes_of big (width_of width) value) }
     {
         match self.kind {
-            Kind::Writable => match &mut self.bytes {
-                Bytes::Own(bytes) => {
-                    put_number(
-                        big,
-                        width,
-                        value,
-                        &mut bytes[offset..offset + width.bytes()],
-                    );
-                    self.dirty = true;
-                    true
-                }
-                _ => false,
-            },
+            Kind::Writable => self.set_own_number(big, width, offset, value),
             _ => false,
         }
     }

@@ -6,8 +6,8 @@ returns-then-try_store-clause-own c = λ p h. ap (λ (own : ℕ → Bool). own p
 
 pub returns-else-try_store-clause-enough : goal.returns-else-try_store-clause-enough
 returns-else-try_store-clause-enough c = λ e.
-    let shared = c.store_slowly.ensures.enough e in
+    let shared = c.store_otherwise.ensures.enough e in
     (shared.0, shared.1, shared.2, sym (ap (λ (own : ℕ → Bool). own shared.0) c.try_store.ensures.own) ∙ shared.3)
 
 pub returns-else-try_store-clause-own : goal.returns-else-try_store-clause-own
-returns-else-try_store-clause-own c = λ p h. c.store_slowly.ensures.own p (ap (λ (own : ℕ → Bool). own p) c.try_store.ensures.own ∙ h)
+returns-else-try_store-clause-own c = λ p h. c.store_otherwise.ensures.own p (ap (λ (own : ℕ → Bool). own p) c.try_store.ensures.own ∙ h)
