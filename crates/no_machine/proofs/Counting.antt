@@ -1,4 +1,4 @@
--- A run of a machine: turns inside, and what comes behind them.
+-- A burst of a run: turns inside, and what comes behind them.
 use Rattle.std.proofs.Common.{◌≡◌, ◌⊎◌, inl, inr, ℕ, ◌+◌, ◌-◌, ◌≤◌, ◌<◌, ◌==◌, nat_lt, if◌then◌else◌, Bool, true, false, eqb-true, true≢false, ◌%◌, List, [], ◌++◌, append-nil, Some, None, refl, sym, ap, subst, ◌∙◌, arith}
 use Rattle.std.proofs.lemmas.Bool.{le-ltb}
 use Rattle.no_ir.specs.declared.ending.End.{End}
@@ -10,23 +10,27 @@ use Rattle.no_semantics.specs.Accepted.{Accepted}
 use Rattle.no_semantics.specs.Acting.{row, step}
 use Rattle.no_semantics.specs.Rows.{Row, Next, Goes, Ends, Leaves, Stuck, affordable, limited, needed, plain, trapping, unfinished}
 use Rattle.no_semantics.specs.Spans.{AreHeld, IsLowestAbsent}
-use Rattle.no_semantics.specs.States.{State}
-use Rattle.no_semantics.specs.Steps.{Steps}
+use Rattle.no_semantics.specs.States.{HasNoMarks, State}
 use Rattle.no_semantics.specs.Values.{Program}
-use Rattle.no_semantics.proofs.Running.{affords, no_step, one_step, steps_compose, went}
+use Rattle.no_semantics.proofs.Running.{affords, no_step, went}
 use Rattle.no_semantics.specs.Rows.{EndsSo, HasNoMeaning}
 use Rattle.no_machine.specs.Outside.{Around, HasWent, IsCalmly, Outs, Placed}
-use Rattle.no_machine.specs.Ran.{HasRun, IsAt, Stops, cost_by, cost_of, end_by, left_of, program_of, told_by, told_of}
+use Rattle.no_machine.specs.Burst.{HasBurst, Pauses, cost_by, cost_of, end_by, told_by, told_of}
+use Rattle.no_machine.specs.Ran.{GoesOn, IsAt, Stays, left_of, program_of}
 use Rattle.no_machine.specs.Standing.{Stands}
-use Rattle.no_machine.specs.Turning.{Halted, HasSpun, IsHere, program_with}
+use Rattle.no_machine.specs.Turning.{IsHere, program_with}
+use Rattle.no_machine.specs.Each.{HasPages, StepsEach}
+use Rattle.no_machine.specs.Spun.{Halted, HasSpun}
 use Rattle.no_machine.specs.declared.frame.Saved.{Saved}
 use Rattle.no_machine.specs.declared.machine.Machine.{Machine}
-use Rattle.no_machine.specs.declared.machine.Ran.{Ran}
-use Rattle.no_machine.specs.declared.machine.Ran.TheVariants as ran
+use Rattle.no_machine.specs.declared.burst.Burst.{Burst}
+use Rattle.no_machine.specs.declared.burst.Burst.TheVariants as burst
 use Rattle.no_machine.specs.declared.out.Out.{Out}
 use Rattle.no_machine.specs.declared.out.Out.TheVariants as out
 use Rattle.no_machine.specs.declared.turn.Stop.{Stop}
 use Rattle.no_machine.specs.declared.turn.Stop.TheVariants as stop
+use Rattle.no_machine.proofs.Each.{each_compose, each_none, each_one, steps_of}
+use Rattle.no_machine.proofs.Paying.{limited_none, row_costs}
 use Rattle.no_machine.proofs.Spinning.{never_after}
 
 -- ---- rows within what is left
@@ -72,18 +76,18 @@ ends_so n e same = subst (λ (x : Next). EndsSo x e) (sym same) refl
 -- ---- turns inside, and no call behind them
 
 abbrev Below : Stop → ℕ → ℕ → Type 0
-Below stop.Spent done left = Unit {0}
+Below stop.Spent done left = 0 < done
 Below _ done left = done < left
 
-pub below : (why : Stop) (done left : ℕ) → (why ≡ stop.Spent) ⊎ (done < left) → Below why done left
-below why done left (inl e) = subst (λ (w : Stop). Below w done left) (sym e) tt
-below stop.Spent done left (inr some) = tt
-below stop.Grow done left (inr some) = some
-below stop.NoMemory done left (inr some) = some
-below stop.Outside done left (inr some) = some
-below (stop.WantPage page) done left (inr some) = some
-below (stop.Trapped trap) done left (inr some) = some
-below (stop.Left v) done left (inr some) = some
+pub below : (why : Stop) (done left : ℕ) → (why ≡ stop.Spent → 0 < done) → (why ≡ stop.Spent) ⊎ (done < left) → Below why done left
+below why done left all (inl e) = subst (λ (w : Stop). Below w done left) (sym e) (all e)
+below stop.Spent done left all (inr some) = all refl
+below stop.Grow done left all (inr some) = some
+below stop.NoMemory done left all (inr some) = some
+below stop.Outside done left all (inr some) = some
+below (stop.WantPage page) done left all (inr some) = some
+below (stop.Trapped trap) done left all (inr some) = some
+below (stop.Left v) done left all (inr some) = some
 
 module _ {M : Type 0} (byte : M → ℕ → ℕ) (held : M → ℕ → Bool) (p : Program) (old mid : Machine M) (done : ℕ) (low : done ≤ left_of old) (within : old.count ≤ old.budget) (counted : mid.count ≡ old.count + done) (env : Env) (more : List ℕ) where
   abbrev closed : Stop → Machine M
@@ -98,8 +102,8 @@ module _ {M : Type 0} (byte : M → ℕ → ℕ) (held : M → ℕ → Bool) (p 
   nothing : (r : Row) → r.sought ≡ [] → AreHeld (held mid.core.mem) r.sought
   nothing r e = subst (AreHeld (held mid.core.mem)) (sym e) (λ page touches. absurd touches)
 
-  halts : (why : Stop) (t : State) → Below why done (left_of old) → Halted p why (held mid.core.mem) t → Stops (held mid.core.mem) (told_of why) done (next t) old (closed why) env
-  halts stop.Spent t some h = (omega (arith, counted), refl)
+  halts : (why : Stop) (t : State) → Below why done (left_of old) → Halted p why (held mid.core.mem) t → Pauses (held mid.core.mem) (told_of why) done (next t) old (closed why) env
+  halts stop.Spent t some h = ((omega (arith, counted), refl), some)
   halts stop.Grow t some h = (omega (arith, counted), refl)
   halts stop.NoMemory t some h = (omega (arith, counted), refl)
   halts stop.Outside t some h = (omega (arith, counted), refl)
@@ -121,7 +125,7 @@ module _ {M : Type 0} (byte : M → ℕ → ℕ) (held : M → ℕ → Bool) (p 
   module _ (same_held : held mid.core.mem ≡ held old.core.mem) (same_heap : mid.core.heap ≡ old.core.heap) (s : State) (from : IsAt byte held p old env more s) where
     -- what was told of turns inside, where no call is behind them
     pub told_run : (why : Stop) → Below why done (left_of old) → HasSpun p why done mid.core.at mid.core.base mid.core.sp mid.core.slots.items mid.core.frames.items (held old.core.mem) (byte mid.core.mem) s
-        → HasRun byte held p (told_of why) old (closed why) env env more s
+        → HasBurst byte held p (told_of why) old (closed why) env env more s
     told_run why some spun = record {
       bytes = [];
       cost = done;
@@ -155,7 +159,7 @@ cost_fits p out.Grow at base sp slots frames a more u left some t = omega arith
 cost_fits p out.NoMemory at base sp slots frames a more u left some t = omega arith
 cost_fits p out.Foreign at base sp slots frames a more u left some t = omega arith
 
-module _ {M : Type 0} (byte : M → ℕ → ℕ) (held : M → ℕ → Bool) (p : Program) (old mid last : Machine M) (done : ℕ) (some : done < left_of old) (within : old.count ≤ old.budget) (counted : last.count ≡ old.count + done) (before after : Env) (more : List ℕ) where
+module _ {M : Type 0} (byte : M → ℕ → ℕ) (held : M → ℕ → Bool) (p : Program) (old mid last : Machine M) (done : ℕ) (some : done < left_of old) (within : old.count ≤ old.budget) (counted : last.count ≡ old.count + done) (before after : Env) (more : List ℕ) (marks : HasNoMarks p.«module») where
   abbrev ended : Out → Machine M
   ended what = record last { count = last.count + cost_by what; end = end_by (told_by what) }
 
@@ -181,7 +185,7 @@ module _ {M : Type 0} (byte : M → ℕ → ℕ) (held : M → ℕ → Bool) (p 
 
     -- the call was not done, and the machine stands where it stood
     calm_run : (what : Out) → last.core.at ≡ mid.core.at → last.core.base ≡ mid.core.base → IsCalmly p mid.core.at mid.core.base last.core.sp last.core.slots.items last.core.frames.items around u
-        → Stops (held last.core.mem) (told_by what) done (step p left u) old (ended what) after → HasRun byte held p (told_by what) old (ended what) before after more s
+        → Pauses (held last.core.mem) (told_by what) done (step p left u) old (ended what) after → HasBurst byte held p (told_by what) old (ended what) before after more s
     calm_run what same_at same_base calmly stops = record {
       bytes = [];
       cost = done;
@@ -202,35 +206,37 @@ module _ {M : Type 0} (byte : M → ℕ → ℕ) (held : M → ℕ → Bool) (p 
       stops = stops;
     }
 
-    went_run : (to there cost : ℕ) → last.core.at ≡ to → last.core.base ≡ there → HasWent p to there cost last.core.sp last.core.slots.items last.core.frames.items around more (affordable left (row p u)) → HasRun byte held p (told_by (out.On to there cost)) old (ended (out.On to there cost)) before after more s
+    went_run : (to there cost : ℕ) → last.core.at ≡ to → last.core.base ≡ there → HasWent p to there cost last.core.sp last.core.slots.items last.core.frames.items around more (affordable left (row p u)) → HasBurst byte held p (told_by (out.On to there cost)) old (ended (out.On to there cost)) before after more s
     went_run to there cost same_at same_base t =
         let w = went left (row p u) t.output t.call t.state (ap (λ (r : Row). r.next) (sym (limits u)) ∙ t.next) in
         let is : affordable left (row p u) ≡ row p u = limits u ∙ w.same in
         let costs : (row p u).cost ≡ cost = ap (λ (r : Row). r.cost) (sym is) ∙ t.costs in
-        let step_is : Steps p u t.output cost t.state = subst (λ (k : ℕ). Steps p u t.output k t.state) costs (one_step p u t.state t.output t.call (ap (λ (r : Row). r.next) (sym is) ∙ t.next)) in
+        let paid : 1 ≤ (row p u).cost = row_costs p u (λ i is. marks u.frame.function u.frame.block u.frame.at i is) in
+        let pages : AreHeld (held old.core.mem) (needed (row p u)) = subst (λ (h : ℕ → Bool). AreHeld h (needed (row p u))) same_held (subst (λ (r : Row). AreHeld (held mid.core.mem) (needed r)) is t.present) in
+        let step_is : StepsEach (HasPages (held old.core.mem)) p u t.output cost t.state = subst (λ (k : ℕ). StepsEach (HasPages (held old.core.mem)) p u t.output k t.state) costs (each_one (HasPages (held old.core.mem)) p u t.state t.output t.call (ap (λ (r : Row). r.next) (sym is) ∙ t.next) pages) in
         record {
           bytes = t.output;
           cost = done + cost;
           state = t.state;
-          steps = steps_compose p s u t.state [] t.output done cost spun.steps step_is;
+          steps = each_compose (HasPages (held old.core.mem)) p s u t.state [] t.output done cost spun.steps step_is;
           afforded = omega (arith, w.most, costs, some);
           wrote = t.wrote;
           at = record {
             here = record {
               stands = subst (λ (k : ℕ). Stands p k last.core.base last.core.sp last.core.slots.items last.core.frames.items t.state) (sym same_at) (subst (λ (k : ℕ). Stands p to k last.core.sp last.core.slots.items last.core.frames.items t.state) (sym same_base) t.stands);
               agrees = subst (λ (h : ℕ → Bool). Agrees h (byte last.core.mem) t.state.byte) (sym still_held) t.agrees;
-              never = never_after p u t.state t.output cost spun.here.never step_is;
+              never = never_after p u t.state t.output cost spun.here.never (steps_of (HasPages (held old.core.mem)) p u t.output cost t.state step_is);
             };
             blocks = t.blocks;
             rest = t.rest;
             last = no_more;
           };
-          stops = (omega (arith, counted), refl);
+          stops = ((omega (arith, counted), refl), omega (arith, paid, costs));
         }
 
     -- what was told of a call behind turns inside
     pub called_run : (what : Out) → Placed what mid.core.at mid.core.base last.core.at last.core.base → Outs p what mid.core.at mid.core.base last.core.sp last.core.slots.items last.core.frames.items around more u (affordable left (row p u))
-        → HasRun byte held p (told_by what) old (ended what) before after more s
+        → HasBurst byte held p (told_by what) old (ended what) before after more s
     called_run (out.On to there cost) place t = went_run to there cost place.0 place.1 t
     called_run (out.Exited status) place t = calm_run (out.Exited status) place.0 place.1 t.3
         (ends_so (step p left u).next (end.Exited status) (ap (λ (r : Row). r.next) (sym (limits u)) ∙ t.0), present t.2, omega (arith, counted, t.1, ap (λ (r : Row). r.cost) (limits u)), refl)
@@ -249,13 +255,13 @@ module _ {M : Type 0} (byte : M → ℕ → ℕ) (held : M → ℕ → Bool) (p 
 
 -- ---- as a machine runs
 
-abbrev Stays : Stop → Type 0
-Stays stop.Outside = ⊥
-Stays _ = Unit {0}
+abbrev IsInside : Stop → Type 0
+IsInside stop.Outside = ⊥
+IsInside _ = Unit {0}
 
 -- turns that stopped at a call left something
 pub further : (why : Stop) (done most left : ℕ) → (why ≡ stop.Spent) ⊎ (done < most) → why ≡ stop.Outside → most ≤ left → done < left
-further why done most left (inl e) is high = absurd (subst Stays (sym e ∙ is) tt)
+further why done most left (inl e) is high = absurd (subst IsInside (sym e ∙ is) tt)
 further why done most left (inr some) is high = omega (arith, some, high)
 
 module _ {M : Type 0} (byte : M → ℕ → ℕ) (held : M → ℕ → Bool) (regions : M → Regions) (a : Accepted) (old mid : Machine M) (why : Stop) (done : ℕ) (is_mid : mid ≡ record old { core = mid.core; count = old.count + done }) (same_regions : regions mid.core.mem ≡ regions old.core.mem) (same_held : held mid.core.mem ≡ held old.core.mem) (same_heap : mid.core.heap ≡ old.core.heap)
@@ -268,14 +274,14 @@ module _ {M : Type 0} (byte : M → ℕ → ℕ) (held : M → ℕ → Bool) (re
   counted_mid = ap (λ (m : Machine M). m.count) is_mid
 
   -- turns inside were all that was done
-  pub turns_run : done ≤ left_of old → (why ≡ stop.Spent) ⊎ (done < left_of old) → (told : Ran) (cost : ℕ) (result : Ran) (new : Machine M) → told ≡ told_of why → cost ≡ cost_of why → new ≡ record mid { count = mid.count + cost; end = end_by told } → result ≡ told
-      → (more : List ℕ) (s : State) → IsAt byte held (program_of regions a old) old before more s → HasRun byte held (program_of regions a old) result old new before before more s
-  turns_run low some told cost result new told_is cost_is new_is result_is more s from =
+  pub turns_run : done ≤ left_of old → (why ≡ stop.Spent → 0 < done) → (why ≡ stop.Spent) ⊎ (done < left_of old) → (told : Burst) (cost : ℕ) (result : Burst) (new : Machine M) → told ≡ told_of why → cost ≡ cost_of why → new ≡ record mid { count = mid.count + cost; end = end_by told } → result ≡ told
+      → (more : List ℕ) (s : State) → IsAt byte held (program_of regions a old) old before more s → HasBurst byte held (program_of regions a old) result old new before before more s
+  turns_run low all some told cost result new told_is cost_is new_is result_is more s from =
       let is : new ≡ record mid { count = mid.count + cost_of why; end = end_by (told_of why) } =
-      new_is ∙ ap (λ (k : ℕ). record mid { count = mid.count + k; end = end_by told }) cost_is ∙ ap (λ (r : Ran). record mid { count = mid.count + cost_of why; end = end_by r }) told_is in
-      subst (λ (m : Machine M). HasRun byte held (program_of regions a old) result old m before before more s) (sym is)
-      (subst (λ (r : Ran). HasRun byte held (program_of regions a old) r old (record mid { count = mid.count + cost_of why; end = end_by (told_of why) }) before before more s) (sym (result_is ∙ told_is))
-      (told_run byte held (program_of regions a old) old mid done low within counted_mid before more same_held same_heap s from why (below why done (left_of old) some) (spun s from.here)))
+      new_is ∙ ap (λ (k : ℕ). record mid { count = mid.count + k; end = end_by told }) cost_is ∙ ap (λ (r : Burst). record mid { count = mid.count + cost_of why; end = end_by r }) told_is in
+      subst (λ (m : Machine M). HasBurst byte held (program_of regions a old) result old m before before more s) (sym is)
+      (subst (λ (r : Burst). HasBurst byte held (program_of regions a old) r old (record mid { count = mid.count + cost_of why; end = end_by (told_of why) }) before before more s) (sym (result_is ∙ told_is))
+      (told_run byte held (program_of regions a old) old mid done low within counted_mid before more same_held same_heap s from why (below why done (left_of old) all some) (spun s from.here)))
 
   -- a call stands behind them
   module _ (outside : why ≡ stop.Outside) (some : done < left_of old) (last : Machine M) (what : Out) (after : Env)
@@ -303,24 +309,37 @@ module _ {M : Type 0} (byte : M → ℕ → ℕ) (held : M → ℕ → Bool) (re
         let fits = cost_fits (program_of regions a old) what mid.core.at mid.core.base last.core.sp last.core.slots.items last.core.frames.items (record { held = held mid.core.mem; byte = byte mid.core.mem; after = byte last.core.mem; heap = mid.core.heap; heap_after = last.core.heap; env = before; env_after = after }) at.1 (spun_out at.0 at.2.here).state (left_of old - done) (omega (arith, some)) (outs_here at.1 at.0 at.2) in
         omega (arith, fits, is, counted_last, some, within)
 
-    pub call_run : held last.core.mem ≡ held mid.core.mem → after.ended ≡ before.ended → Placed what mid.core.at mid.core.base last.core.at last.core.base → (told : Ran) (cost : ℕ) (result : Ran) (new : Machine M) → told ≡ told_by what → cost ≡ cost_by what → new ≡ record last { count = last.count + cost; end = end_by told } → result ≡ told
-        → (more : List ℕ) (s : State) → IsAt byte held (program_of regions a old) old before more s → HasRun byte held (program_of regions a old) result old new before after more s
-    call_run still_held same_ended place told cost result new told_is cost_is new_is result_is more s from =
+    pub call_run : HasNoMarks a.«module» → held last.core.mem ≡ held mid.core.mem → after.ended ≡ before.ended → Placed what mid.core.at mid.core.base last.core.at last.core.base → (told : Burst) (cost : ℕ) (result : Burst) (new : Machine M) → told ≡ told_by what → cost ≡ cost_by what → new ≡ record last { count = last.count + cost; end = end_by told } → result ≡ told
+        → (more : List ℕ) (s : State) → IsAt byte held (program_of regions a old) old before more s → HasBurst byte held (program_of regions a old) result old new before after more s
+    call_run marks still_held same_ended place told cost result new told_is cost_is new_is result_is more s from =
         let is : new ≡ record last { count = last.count + cost_by what; end = end_by (told_by what) } =
-        new_is ∙ ap (λ (k : ℕ). record last { count = last.count + k; end = end_by told }) cost_is ∙ ap (λ (r : Ran). record last { count = last.count + cost_by what; end = end_by r }) told_is in
-        subst (λ (m : Machine M). HasRun byte held (program_of regions a old) result old m before after more s) (sym is)
-        (subst (λ (r : Ran). HasRun byte held (program_of regions a old) r old (record last { count = last.count + cost_by what; end = end_by (told_by what) }) before after more s) (sym (result_is ∙ told_is))
-        (called_run byte held (program_of regions a old) old mid last done some within counted_last before after more same_held still_held same_heap same_ended s from (spun_out s from.here) what place (outs_here more s from)))
+        new_is ∙ ap (λ (k : ℕ). record last { count = last.count + k; end = end_by told }) cost_is ∙ ap (λ (r : Burst). record last { count = last.count + cost_by what; end = end_by r }) told_is in
+        subst (λ (m : Machine M). HasBurst byte held (program_of regions a old) result old m before after more s) (sym is)
+        (subst (λ (r : Burst). HasBurst byte held (program_of regions a old) r old (record last { count = last.count + cost_by what; end = end_by (told_by what) }) before after more s) (sym (result_is ∙ told_is))
+        (called_run byte held (program_of regions a old) old mid last done some within counted_last before after more marks same_held still_held same_heap same_ended s from (spun_out s from.here) what place (outs_here more s from)))
 
--- nothing was left to do anything with
-pub none_left : {M : Type 0} (byte : M → ℕ → ℕ) (held : M → ℕ → Bool) (p : Program) (old : Machine M) (env : Env) → old.end ≡ None → left_of old ≡ 0 → (more : List ℕ) (s : State) → IsAt byte held p old env more s → HasRun byte held p ran.Spent old old env env more s
-none_left byte held p old env running none more s from = record {
-  bytes = [];
-  cost = 0;
-  state = s;
-  steps = no_step p s;
-  afforded = omega arith;
-  wrote = sym (append-nil env.output.items);
-  at = from;
-  stops = ((omega arith, running), none);
-}
+-- nothing was left to do anything with, and each instruction costs something
+pub none_left : {M : Type 0} (byte : M → ℕ → ℕ) (held : M → ℕ → Bool) (regions : M → Regions) (a : Accepted) (old : Machine M) (env : Env) → HasNoMarks a.«module» → left_of old ≡ 0 → (result : Burst) (new : Machine M) → new ≡ record old { count = old.count + 0; end = end_by (burst.Ended end.Unfinished) } → result ≡ burst.Ended end.Unfinished
+    → (more : List ℕ) (s : State) → IsAt byte held (program_of regions a old) old env more s → HasBurst byte held (program_of regions a old) result old new env env more s
+none_left {M = M} byte held regions a old env marks none result new new_is result_is more s from =
+    let p : Program = program_of regions a old in
+    let left : left_of old - 0 ≡ 0 = omega (arith, none) in
+    let is : step p (left_of old - 0) s ≡ unfinished [] = ap (λ (k : ℕ). limited k (row p s)) left ∙ limited_none (row p s) (row_costs p s (λ i is. marks s.frame.function s.frame.block s.frame.at i is)) in
+    let last : Machine M = record old { count = old.count + 0; end = Some end.Unfinished } in
+    let burst : HasBurst byte held p (burst.Ended end.Unfinished) old last env env more s = record {
+      bytes = [];
+      cost = 0;
+      state = s;
+      steps = each_none (HasPages (held old.core.mem)) p s;
+      afforded = omega arith;
+      wrote = sym (append-nil env.output.items);
+      at = record { here = from.here; blocks = from.blocks; rest = from.rest; last = from.last };
+      stops = (
+        ends_so (step p (left_of old - 0) s).next end.Unfinished (ap (λ (r : Row). r.next) is),
+        subst (λ (r : Row). AreHeld (held old.core.mem) r.sought) (sym is) (λ page touches. absurd touches),
+        omega (arith, ap (λ (r : Row). r.cost) is),
+        refl,
+      );
+    } in
+    subst (λ (m : Machine M). HasBurst byte held p result old m env env more s) (sym new_is)
+    (subst (λ (r : Burst). HasBurst byte held p r old last env env more s) (sym result_is) burst)

@@ -3,12 +3,16 @@ use Rattle.std.proofs.Common.{◌≡◌, ℕ, ◌+◌, ◌++◌, Bool, List, [],
 use Rattle.no_layout.specs.declared.memory.Regions.{Regions}
 use Rattle.no_semantics.specs.Accepted.{Accepted}
 use Rattle.no_semantics.specs.Acting.{row}
-use Rattle.no_semantics.specs.Rows.{Calling, Goes}
+use Rattle.no_semantics.specs.Rows.{Calling, Goes, needed}
+use Rattle.no_semantics.specs.Spans.{AreHeld}
 use Rattle.no_semantics.specs.States.{State}
 use Rattle.no_semantics.specs.Steps.{Steps}
 use Rattle.no_semantics.specs.Values.{Program}
-use Rattle.no_semantics.proofs.Running.{no_step, one_step, steps_compose}
-use Rattle.no_machine.specs.Turning.{Halted, HasSpun, HasTurned, IsHere, IsStill, NeverStuck, Stopped, Turned, program_with}
+use Rattle.no_semantics.proofs.Running.{steps_compose}
+use Rattle.no_machine.proofs.Each.{each_compose, each_none, each_one, steps_of}
+use Rattle.no_machine.specs.Turning.{HasTurned, IsHere, IsStill, NeverStuck, Stopped, Turned, program_with}
+use Rattle.no_machine.specs.Each.{HasPages, StepsEach}
+use Rattle.no_machine.specs.Spun.{Halted, HasSpun}
 use Rattle.no_machine.specs.declared.frame.Saved.{Saved}
 use Rattle.no_machine.specs.declared.turn.Stop.{Stop}
 use Rattle.no_machine.specs.declared.turn.Stop.TheVariants as stop
@@ -25,8 +29,8 @@ turn_at a addresses result at base sp sp' slots slots' frames frames' byte after
 pub never_after : (p : Program) (s t : State) (bytes : List ℕ) (count : ℕ) → NeverStuck p s → Steps p s bytes count t → NeverStuck p t
 never_after p s t bytes count never steps more cost u further = never (bytes ++ more) (count + cost) u (steps_compose p s t u bytes more count cost steps further)
 
-one_cost : (p : Program) (s t : State) (bytes : List ℕ) (call : Option Calling) → (row p s).next ≡ Goes bytes call t → (row p s).cost ≡ 1 → Steps p s bytes 1 t
-one_cost p s t bytes call next cost = subst (λ (k : ℕ). Steps p s bytes k t) cost (one_step p s t bytes call next)
+one_cost : (p : Program) (held : ℕ → Bool) (s t : State) (bytes : List ℕ) (call : Option Calling) → (row p s).next ≡ Goes bytes call t → (row p s).cost ≡ 1 → AreHeld held (needed (row p s)) → StepsEach (HasPages held) p s bytes 1 t
+one_cost p held s t bytes call next cost present = subst (λ (k : ℕ). StepsEach (HasPages held) p s bytes k t) cost (each_one (HasPages held) p s t bytes call next present)
 
 module _ (p : Program) (held : ℕ → Bool) where
   pub here_more : (at base sp : ℕ) (slots : List ℕ) (frames : List Saved) (byte : ℕ → ℕ) (at' base' sp' : ℕ) (slots' : List ℕ) (frames' : List Saved) (byte' : ℕ → ℕ) (s : State) → IsHere p at base sp slots frames held byte s
@@ -34,11 +38,11 @@ module _ (p : Program) (held : ℕ → Bool) where
   here_more at base sp slots frames byte at' base' sp' slots' frames' byte' s here t = record {
     stands = t.stands;
     agrees = t.agrees;
-    never = never_after p s t.state [] 1 here.never (one_cost p s t.state [] t.call t.next t.cost);
+    never = never_after p s t.state [] 1 here.never (steps_of (HasPages held) p s [] 1 t.state (one_cost p held s t.state [] t.call t.next t.cost t.present));
   }
 
   pub spun_none : (at base sp : ℕ) (slots : List ℕ) (frames : List Saved) (byte : ℕ → ℕ) (s : State) → IsHere p at base sp slots frames held byte s → HasSpun p stop.Spent 0 at base sp slots frames held byte s
-  spun_none at base sp slots frames byte s here = record { state = s; steps = no_step p s; here = here; heap = refl; input = refl; stopped = tt }
+  spun_none at base sp slots frames byte s here = record { state = s; steps = each_none (HasPages held) p s; here = here; heap = refl; input = refl; stopped = tt }
 
   pub spun_more : (count at base sp : ℕ) (slots : List ℕ) (frames : List Saved) (byte : ℕ → ℕ) (at' base' sp' : ℕ) (slots' : List ℕ) (frames' : List Saved) (byte' : ℕ → ℕ) (s : State) → HasSpun p stop.Spent count at base sp slots frames held byte s
       → ((t : State) → IsHere p at base sp slots frames held byte t → HasTurned p at' base' sp' slots' frames' held byte' t) → HasSpun p stop.Spent (count + 1) at' base' sp' slots' frames' held byte' s
@@ -46,7 +50,7 @@ module _ (p : Program) (held : ℕ → Bool) where
       let t = turns spun.state spun.here in
       record {
         state = t.state;
-        steps = steps_compose p s spun.state t.state [] [] count 1 spun.steps (one_cost p spun.state t.state [] t.call t.next t.cost);
+        steps = each_compose (HasPages held) p s spun.state t.state [] [] count 1 spun.steps (one_cost p held spun.state t.state [] t.call t.next t.cost t.present);
         here = here_more at base sp slots frames byte at' base' sp' slots' frames' byte' spun.state spun.here t;
         heap = t.heap ∙ spun.heap;
         input = t.input ∙ spun.input;
@@ -68,7 +72,7 @@ module _ (p : Program) (held : ℕ → Bool) where
       let t = stops spun.state spun.here in
       record {
         state = spun.state;
-        steps = subst (λ (k : ℕ). Steps p s [] k spun.state) same spun.steps;
+        steps = subst (λ (k : ℕ). StepsEach (HasPages held) p s [] k spun.state) same spun.steps;
         here = record { stands = t.1.stands; agrees = subst (λ (f : ℕ → ℕ). Rattle.no_layout.specs.Memory.Agrees held f spun.state.byte) (sym t.1.bytes) spun.here.agrees; never = spun.here.never };
         heap = spun.heap;
         input = spun.input;

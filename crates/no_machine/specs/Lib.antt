@@ -2,8 +2,12 @@ pub mod Slots
 pub mod Did
 pub mod Standing
 pub mod Turning
+pub mod Each
+pub mod Spun
 pub mod Calling
 pub mod Outside
 pub mod Beginning
+pub mod Counted
 pub mod Ran
 pub mod Booted
+pub mod Burst

@@ -98,19 +98,3 @@ pub record AreFacts (a : Accepted) (addresses : List ℕ) (code : Code) (cells :
   pub flags : AreDeclared a.«module» declared
   pub order : big ≡ a.layout.big
   pub width : pointer ≡ a.layout.pointer
-
--- ---- many turns
-
--- why no further one was done
-abbrev pub Halted : Program → Stop → (ℕ → Bool) → State → Type 0
-Halted p stop.Spent held s = Unit {0}
-Halted p why held s = Stopped p why held s
-
--- the state that was reached by instructions that each cost 1 and write nothing, and why no further one was done
-pub record HasSpun (p : Program) (why : Stop) (count at base sp : ℕ) (slots : List ℕ) (frames : List Saved) (held : ℕ → Bool) (byte : ℕ → ℕ) (s : State) : Type 0 where
-  pub state : State
-  pub steps : Steps p s [] count state
-  pub here : IsHere p at base sp slots frames held byte state
-  pub heap : state.heap ≡ s.heap
-  pub input : state.input ≡ s.input
-  pub stopped : Halted p why held state

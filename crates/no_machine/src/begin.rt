@@ -1,4 +1,4 @@
-ghost use Rattle.std.specs.Prelude.{◌≡◌, ◌<◌, ℕ, IfOk, List, Some, length, replicate, slice_get};
+ghost use Rattle.std.specs.Prelude.{◌≡◌, ◌+◌, ◌<◌, ℕ, IfOk, List, Some, length, replicate, slice_get, true};
 ghost use Rattle.no_semantics.specs.Starts.{main_number, start};
 ghost use Rattle.no_semantics.specs.States.{State};
 ghost use Rattle.no_semantics.specs.Values.{Program};
@@ -69,7 +69,8 @@ impl<M: Memory> Core<M> {
 
     /// Makes room for so many slots more. Whether there was memory for it; where the machine stands does not change.
     pub fn grow(&mut self, count: usize) -> bool
-        ensures { Grows self.old self.new }
+        ensures grows { Grows self.old self.new }
+        ensures counts { result ≡ true → length self.new.slots.items ≡ length self.old.slots.items + count }
     {
         for _ in 0..count {
             if self.slots.push(0).is_err() {
@@ -77,5 +78,16 @@ impl<M: Memory> Core<M> {
             }
         }
         true
+    }
+
+    /// Makes room for as many slots again, and one.
+    pub(crate) fn widen(&mut self) -> bool
+        ensures grows { Grows self.old self.new }
+        ensures wider { result ≡ true → length self.old.slots.items < length self.new.slots.items }
+    {
+        let Some(count) = self.slots.len().checked_add(1) else {
+            return false;
+        };
+        self.grow(count)
     }
 }

@@ -1,42 +1,28 @@
-ghost use Rattle.std.specs.Prelude.{◌≡◌, ◌⊎◌, ◌+◌, ◌^◌, ◌<◌, ◌≤◌, ◌++◌, [], ℕ, List, None, true};
-ghost use Rattle.no_semantics.specs.Acting.{row};
-ghost use Rattle.no_semantics.specs.Rows.{affordable};
-ghost use Rattle.no_machine.specs.Outside.{Outs, Placed};
-ghost use Rattle.no_semantics.specs.States.{State};
-ghost use Rattle.no_machine.specs.Turning.{HasSpun, IsHere};
-ghost use Rattle.no_machine.specs.Ran.{HasRun, IsAt, IsMade, cost_by, cost_of, end_by, program_of, told_by, told_of};
+ghost use Rattle.std.specs.Prelude.{◌≡◌, ◌+◌, length};
+ghost use Rattle.no_machine.specs.Ran.{budget_of, count_of, end_of, memory_of};
 
-use crate::facts::Facts;
-use crate::out::Out;
 use crate::state::Core;
-use crate::turn::Stop;
 use no_code::Code;
+use no_heap::Heap;
 use no_ir::{End, List};
 use no_layout::Memory;
-use no_lib::Env;
 use no_module::External;
-use no_semantics::Sound;
 
-/// How a run of a machine went.
+/// What a step did.
 #[derive(Clone, Copy, Debug, PartialEq, Eq)]
-pub enum Ran {
-    /// Instructions were done.
+pub enum StepAnswer {
     Stepped,
-    /// There are too few slots for a call: make room, and run on.
-    Room,
-    /// Nothing is left of the budget.
-    Spent,
-    /// This page is absent, and it is the lowest of those that the next instruction needs.
+    /// This page is absent. It is the lowest of those that the instruction needs, and has a byte in a region. Nothing
+    /// changed: supply it, and take the step again.
     WantPage(u32),
-    /// The next instruction takes a byte of the input, and none is there.
+    /// The instruction takes a byte of the input, and none is there. Nothing changed: give some, or end the input.
     WantInput,
-    /// The run has ended so.
+    /// The run has ended so; each further step answers the same.
     Ended(End),
-    /// The next instruction has no meaning. No accepted module comes here.
+    /// The instruction has no meaning. No accepted module comes here.
     Stuck,
+    /// Nothing changed.
     NoMemory,
-    /// The next instruction calls an external of a server's part.
-    Foreign,
 }
 
 /// A run of a module over a memory, within a budget.
@@ -53,180 +39,51 @@ pub struct Machine<M: Memory> {
     pub(crate) end: Option<End>,
 }
 
-/// What is told of why no further instruction was done.
-fn told_of(why: Stop) -> Ran
-    ensures { result ≡ told_of why }
-{
-    match why {
-        Stop::Trapped(trap) => Ran::Ended(End::Trapped(trap)),
-        Stop::Left(Some(n)) => Ran::Ended(End::Exited((n % 256) as u8)),
-        Stop::Left(None) => Ran::Stuck,
-        Stop::WantPage(page) => Ran::WantPage(page),
-        Stop::NoMemory => Ran::NoMemory,
-        Stop::Outside => Ran::Foreign,
-        Stop::Grow => Ran::Room,
-        Stop::Spent => Ran::Stepped,
-    }
-}
-
-fn cost_of(why: Stop) -> u64
-    ensures value { result ≡ cost_of why }
-    ensures most { result ≤ 1 }
-{
-    match why {
-        Stop::Trapped(_) | Stop::Left(Some(_)) => 1,
-        _ => 0,
-    }
-}
-
-/// What is told of what came of an instruction outside.
-fn told_by(what: Out) -> Ran
-    ensures { result ≡ told_by what }
-{
-    match what {
-        Out::On(_, _, _) => Ran::Stepped,
-        Out::Exited(status) => Ran::Ended(End::Exited(status)),
-        Out::Trapped(trap) => Ran::Ended(End::Trapped(trap)),
-        Out::Over => Ran::Ended(End::Unfinished),
-        Out::Stuck => Ran::Stuck,
-        Out::WantPage(page) => Ran::WantPage(page),
-        Out::WantInput => Ran::WantInput,
-        Out::Grow => Ran::Room,
-        Out::NoMemory => Ran::NoMemory,
-        Out::Foreign => Ran::Foreign,
-    }
-}
-
-fn cost_by(what: Out) -> u64
-    ensures { result ≡ cost_by what }
-{
-    match what {
-        Out::On(_, _, cost) => cost,
-        Out::Exited(_) | Out::Trapped(_) => 1,
-        _ => 0,
-    }
-}
-
-/// The end of a run by an answer.
-fn end_by(told: Ran) -> Option<End>
-    ensures { result ≡ end_by told }
-{
-    match told {
-        Ran::Ended(end) => Some(end),
-        _ => None,
-    }
-}
-
 impl<M: Memory> Machine<M> {
-    /// Does at most so many instructions, until one needs something from outside. How many were done.
-    fn inside(&mut self, sound: &Sound, most: u64) -> (Stop, u64)
-        requires made { IsMade sound.now self.old }
-        requires within { self.old.count + most ≤ self.old.budget }
-        requires here { (s : State) × IsHere (program_of M.regions sound.now self.old) self.old.core.at self.old.core.base self.old.core.sp self.old.core.slots.items self.old.core.frames.items (M.held self.old.core.mem) (M.byte self.old.core.mem) s }
-        ensures spun { (s : State) → IsHere (program_of M.regions sound.now self.old) self.old.core.at self.old.core.base self.old.core.sp self.old.core.slots.items self.old.core.frames.items (M.held self.old.core.mem) (M.byte self.old.core.mem) s → HasSpun (program_of M.regions sound.now self.old) result.0 result.1 self.new.core.at self.new.core.base self.new.core.sp self.new.core.slots.items self.new.core.frames.items (M.held self.old.core.mem) (M.byte self.new.core.mem) s }
-        ensures most { result.1 ≤ most }
-        ensures spent { result.0 ≡ Stop.Spent → result.1 ≡ most }
-        ensures halted { (result.0 ≡ Stop.Spent) ⊎ (result.1 < most) }
-        ensures heap { self.new.core.heap ≡ self.old.core.heap }
-        ensures regions { M.regions self.new.core.mem ≡ M.regions self.old.core.mem }
-        ensures held { M.held self.new.core.mem ≡ M.held self.old.core.mem }
-        ensures rest { self.new ≡ record self.old { core = self.new.core; count = self.old.count + result.1 } }
+    /// What was counted so far.
+    pub fn count(&self) -> u64
+        ensures { result ≡ count_of self.now }
     {
-        let layout = sound.layout();
-        let code = &self.code;
-        let facts = Facts {
-            sound,
-            addresses: self.addresses.as_slice(),
-            code,
-            cells: code.cells.as_slice(),
-            constants: code.constants.as_slice(),
-            declared: self.declared.as_slice(),
-            big: layout.big,
-            pointer: layout.pointer,
-        };
-        let (why, done) = self.core.go(facts, most);
-        self.count += done;
-        (why, done)
+        self.count
     }
 
-    /// Does the call of the cell at which it stands, within what is left of the budget.
-    fn outside(&mut self, sound: &Sound, left: u64, env: &mut Env) -> Out
-        requires made { IsMade sound.now self.old }
-        requires some { 0 < left }
-        requires here { (s : State) × IsHere (program_of M.regions sound.now self.old) self.old.core.at self.old.core.base self.old.core.sp self.old.core.slots.items self.old.core.frames.items (M.held self.old.core.mem) (M.byte self.old.core.mem) s }
-        ensures outs { (s : State) → (more : List ℕ) → IsHere (program_of M.regions sound.now self.old) self.old.core.at self.old.core.base self.old.core.sp self.old.core.slots.items self.old.core.frames.items (M.held self.old.core.mem) (M.byte self.old.core.mem) s → s.heap ≡ self.old.core.heap → s.input ≡ env.old.input ++ more → (env.old.ended ≡ true → more ≡ []) → Outs (program_of M.regions sound.now self.old) result self.old.core.at self.old.core.base self.new.core.sp self.new.core.slots.items self.new.core.frames.items (record { held = M.held self.old.core.mem; byte = M.byte self.old.core.mem; after = M.byte self.new.core.mem; heap = self.old.core.heap; heap_after = self.new.core.heap; env = env.old; env_after = env.new }) more s (affordable left (row (program_of M.regions sound.now self.old) s)) }
-        ensures placed { Placed result self.old.core.at self.old.core.base self.new.core.at self.new.core.base }
-        ensures regions { M.regions self.new.core.mem ≡ M.regions self.old.core.mem }
-        ensures held { M.held self.new.core.mem ≡ M.held self.old.core.mem }
-        ensures ended { env.new.ended ≡ env.old.ended }
-        ensures rest { self.new ≡ record self.old { core = self.new.core } }
+    /// How much may be counted.
+    pub fn budget(&self) -> u64
+        ensures { result ≡ budget_of self.now }
     {
-        let layout = sound.layout();
-        let code = &self.code;
-        let facts = Facts {
-            sound,
-            addresses: self.addresses.as_slice(),
-            code,
-            cells: code.cells.as_slice(),
-            constants: code.constants.as_slice(),
-            declared: self.declared.as_slice(),
-            big: layout.big,
-            pointer: layout.pointer,
-        };
-        self.core.call_out(
-            facts,
-            self.externals.as_slice(),
-            self.taken.as_slice(),
-            left,
-            env,
-        )
+        self.budget
     }
 
-    /// Counts, and ends the run where it is told that it has ended.
-    fn close(&mut self, told: Ran, cost: u64) -> Ran
-        requires { self.old.count + cost < 2 ^ 64 }
-        ensures closed { self.new ≡ record self.old { count = self.old.count + cost; end = end_by told } }
-        ensures told { result ≡ told }
+    /// The stack pointer.
+    pub fn sp(&self) -> u32
+        ensures { result ≡ self.now.core.sp }
     {
-        self.count += cost;
-        self.end = end_by(told);
-        told
+        self.core.sp
     }
 
-    /// Does instructions until one needs something from outside, but no more than so many, and then, where that is a call, the
-    /// call.
-    ///
-    /// What is said holds of every state for which the machine stands and from which no run gets stuck.
-    pub fn run(&mut self, sound: &Sound, limit: u64, env: &mut Env) -> Ran
-        requires made { IsMade sound.now self.old }
-        requires within { self.old.count ≤ self.old.budget }
-        requires running { self.old.end ≡ None }
-        requires at { (s : State) × (more : List ℕ) × IsAt M.byte M.held (program_of M.regions sound.now self.old) self.old env.old more s }
-        ensures ran { (more : List ℕ) → (s : State) → IsAt M.byte M.held (program_of M.regions sound.now self.old) self.old env.old more s → HasRun M.byte M.held (program_of M.regions sound.now self.old) result self.old self.new env.old env.new more s }
-        ensures made { IsMade sound.now self.new }
-        ensures regions { M.regions self.new.core.mem ≡ M.regions self.old.core.mem }
-        ensures held { M.held self.new.core.mem ≡ M.held self.old.core.mem }
+    /// How many frames there are.
+    pub fn depth(&self) -> usize
+        ensures { result ≡ length self.now.core.frames.items + 1 }
     {
-        let left = self.budget - self.count;
-        if left == 0 {
-            return Ran::Spent;
-        }
-        let most = lesser(limit, left);
-        let (why, done) = self.inside(sound, most);
-        match why {
-            Stop::Outside => {
-                let what = self.outside(sound, left - done, env);
-                self.close(told_by(what), cost_by(what))
-            }
-            _ => self.close(told_of(why), cost_of(why)),
-        }
+        self.core.frames.len() + 1
     }
-}
 
-/// The lesser of two numbers.
-fn lesser(a: u64, b: u64) -> u64
-    ensures low { result ≤ a }
-    ensures high { result ≤ b }
-{
-    if a < b { a } else { b }
+    /// How the run ended, if it has.
+    pub fn end(&self) -> Option<End>
+        ensures { result ≡ end_of self.now }
+    {
+        self.end
+    }
+
+    pub fn memory(&self) -> &M
+        ensures { result.now ≡ memory_of self.now }
+    {
+        &self.core.mem
+    }
+
+    pub fn heap(&self) -> &Heap
+        ensures { result.now ≡ self.now.core.heap }
+    {
+        &self.core.heap
+    }
 }

@@ -1,6 +1,7 @@
 ghost use Rattle.std.specs.Prelude.{◌≡◌, ◌⊎◌, ◌-◌, ◌<◌, ◌≤◌};
 ghost use Rattle.no_semantics.specs.States.{State};
-ghost use Rattle.no_machine.specs.Turning.{AreFacts, HasSpun, IsHere, program_with};
+ghost use Rattle.no_machine.specs.Turning.{AreFacts, IsHere, program_with};
+ghost use Rattle.no_machine.specs.Spun.{HasSpun};
 
 use crate::facts::Facts;
 use crate::frame::Saved;

@@ -1,10 +1,11 @@
-ghost use Rattle.std.specs.Prelude.{◌≡◌, ◌⊎◌, ◌<◌, ◌≤◌, ◌++◌, [], ℕ, List, true};
+ghost use Rattle.std.specs.Prelude.{◌≡◌, ◌⊎◌, ◌<◌, ◌≤◌, ◌++◌, [], ℕ, List, length, true};
 ghost use Rattle.no_semantics.specs.Acting.{row};
 ghost use Rattle.no_semantics.specs.Rows.{affordable};
 ghost use Rattle.no_taken.specs.Marked.{AreTaken};
 ghost use Rattle.no_machine.specs.Outside.{AreExternals, Outs, Placed};
 ghost use Rattle.no_semantics.specs.States.{State};
-ghost use Rattle.no_machine.specs.Turning.{AreFacts, HasSpun, IsHere, program_with};
+ghost use Rattle.no_machine.specs.Turning.{AreFacts, IsHere, program_with};
+ghost use Rattle.no_machine.specs.Spun.{HasSpun};
 
 use crate::facts::Facts;
 use crate::frame::Saved;
@@ -44,6 +45,7 @@ impl<M: Memory> Core<M> {
         ensures heap { self.new.heap ≡ self.old.heap }
         ensures regions { M.regions self.new.mem ≡ M.regions self.old.mem }
         ensures held { M.held self.new.mem ≡ M.held self.old.mem }
+        ensures long { length self.new.slots.items ≡ length self.old.slots.items }
     {
         let stand = Stand {
             at: self.at,
@@ -94,6 +96,7 @@ impl<M: Memory> Core<M> {
         ensures regions { M.regions self.new.mem ≡ M.regions self.old.mem }
         ensures held { M.held self.new.mem ≡ M.held self.old.mem }
         ensures ended { env.new.ended ≡ env.old.ended }
+        ensures long { length self.new.slots.items ≡ length self.old.slots.items }
     {
         let told = outside(
             facts,

@@ -1,6 +1,7 @@
 use Rattle.std.proofs.Common.{◌≡◌}
 use Rattle.no_semantics.specs.States.{State}
-use Rattle.no_machine.specs.Turning.{HasSpun, IsHere, program_with}
+use Rattle.no_machine.specs.Turning.{IsHere, program_with}
+use Rattle.no_machine.specs.Spun.{HasSpun}
 use Rattle.no_machine.specs.declared.turn.Stop.TheVariants as stop
 use Rattle.no_machine.proofs.spin.spin.Given as goal
 

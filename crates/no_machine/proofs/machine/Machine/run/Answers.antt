@@ -1,32 +1,13 @@
-use Rattle.std.proofs.Common.{rules, ◌≡◌, ◌⊎◌, inl, inr, ◌^◌, ◌<◌, ◌≤◌, arith}
-use Rattle.no_machine.specs.Ran.{left_of}
-use Rattle.no_machine.specs.declared.turn.Stop.TheVariants as stop
-use Rattle.no_machine.proofs.Counting.{call_run, counts, further, none_left, turns_run}
+use Rattle.std.proofs.Common.{rules, ◌≡◌, None, subst, sym}
+use Rattle.no_layout.specs.Memory.{IsPage}
+use Rattle.no_layout.specs.declared.memory.Regions.{Regions}
+use Rattle.no_machine.specs.Ran.{end_of, program_of}
+use Rattle.no_machine.proofs.Slicing.{wanted_inside}
 use Rattle.no_machine.proofs.machine.Machine.run.Goals as goal
 
-pub returns-then-left-eq0-clause-ran : goal.returns-then-left-eq0-clause-ran
-returns-then-left-eq0-clause-ran g c = none_left _ _ _ _ _ c.requires.running c.if-left-eq0.true
-
-pub close-requires : goal.close-requires
-close-requires g c =
-    let some : c.inside-why.result.1 < left_of c.args.self.now = further c.inside-why.result.0 _ _ _ c.inside-why.ensures.halted c.in-Outside.is c.lesser-most.ensures.high in
-    let fits = counts g.M.Memory.byte g.M.Memory.held g.M.Memory.regions c.args.sound.now c.args.self.now c.inside-why.new.self _ _ c.inside-why.ensures.rest c.inside-why.ensures.regions c.inside-why.ensures.held c.inside-why.ensures.heap c.requires.within c.args.env.now c.inside-why.ensures.spun
-    c.in-Outside.is some c.outside-what.new.self _ c.outside-what.new.env c.outside-what.ensures.outs c.outside-what.ensures.rest c.requires.at c.cost_by.result c.cost_by.ensures in
-    let small : c.args.self.now.budget < 2 ^ 64 = search rules in
-    omega (arith, fits, small)
-
-pub returns-in-Outside-clause-ran : goal.returns-in-Outside-clause-ran
-returns-in-Outside-clause-ran g c =
-    let some : c.inside-why.result.1 < left_of c.args.self.now = further c.inside-why.result.0 _ _ _ c.inside-why.ensures.halted c.in-Outside.is c.lesser-most.ensures.high in
-    call_run g.M.Memory.byte g.M.Memory.held g.M.Memory.regions c.args.sound.now c.args.self.now c.inside-why.new.self _ _ c.inside-why.ensures.rest c.inside-why.ensures.regions c.inside-why.ensures.held c.inside-why.ensures.heap c.requires.within c.args.env.now c.inside-why.ensures.spun
-    c.in-Outside.is some c.outside-what.new.self _ c.outside-what.new.env c.outside-what.ensures.outs c.outside-what.ensures.rest c.outside-what.ensures.held c.outside-what.ensures.ended c.outside-what.ensures.placed _ _ _ _ c.told_by.ensures c.cost_by.ensures c.close.ensures.closed c.close.ensures.told
-
-pub returns-in_default-clause-ran : goal.returns-in_default-clause-ran
-returns-in_default-clause-ran g c =
-    let low : c.inside-why.result.1 ≤ left_of c.args.self.now = omega (arith, c.inside-why.ensures.most, c.lesser-most.ensures.high) in
-    let some : (c.inside-why.result.0 ≡ stop.Spent) ⊎ (c.inside-why.result.1 < left_of c.args.self.now) = elim c.inside-why.ensures.halted [
-      | inl e ↦ inl e
-      | inr l ↦ inr (omega (arith, l, c.lesser-most.ensures.high))
-    ] in
-    turns_run g.M.Memory.byte g.M.Memory.held g.M.Memory.regions c.args.sound.now c.args.self.now c.inside-why.new.self _ _ c.inside-why.ensures.rest c.inside-why.ensures.regions c.inside-why.ensures.held c.inside-why.ensures.heap c.requires.within c.args.env.now c.inside-why.ensures.spun
-    low some _ _ _ _ c.told_of.ensures c.cost_of.ensures.value c.close-in_default.ensures.closed c.close-in_default.ensures.told
+pub returns-clause-inside : goal.returns-clause-inside
+returns-clause-inside g c = λ page is.
+    let running : end_of c.args.self.now ≡ None = search rules in
+    let at = c.requires.at running in
+    subst (λ (r : Regions). IsPage r page) (sym c.go_on-told.ensures.stays.same_regions)
+    (wanted_inside g.M.Memory.byte g.M.Memory.held (program_of g.M.Memory.regions c.args.sound.now c.args.self.now) c.args.limit c.go_on-told.result page c.args.self.now c.go_on-told.new.self c.args.env.now c.go_on-told.new.env at.1 at.0 c.blocks-blocks.ensures.live (c.go_on-told.ensures.ran at.1 at.0 at.2) is)
