@@ -1,5 +1,5 @@
 -- A burst of a run: turns inside, and what comes behind them.
-use Rattle.std.proofs.Common.{◌≡◌, ◌⊎◌, inl, inr, ℕ, ◌+◌, ◌-◌, ◌≤◌, ◌<◌, ◌==◌, nat_lt, if◌then◌else◌, Bool, true, false, eqb-true, true≢false, ◌%◌, List, [], ◌++◌, append-nil, Some, None, refl, sym, ap, subst, ◌∙◌, arith}
+use Rattle.std.proofs.Common.{◌≡◌, ◌≢◌, ◌⊎◌, inl, inr, ℕ, ◌+◌, ◌-◌, ◌≤◌, ◌<◌, ◌==◌, nat_lt, if◌then◌else◌, Bool, true, false, eqb-true, true≢false, ◌%◌, List, [], ◌++◌, append-nil, Some, None, refl, sym, ap, subst, ◌∙◌, arith}
 use Rattle.std.proofs.lemmas.Bool.{le-ltb}
 use Rattle.no_ir.specs.declared.ending.End.{End}
 use Rattle.no_ir.specs.declared.ending.End.TheVariants as end
@@ -29,7 +29,7 @@ use Rattle.no_machine.specs.declared.out.Out.{Out}
 use Rattle.no_machine.specs.declared.out.Out.TheVariants as out
 use Rattle.no_machine.specs.declared.turn.Stop.{Stop}
 use Rattle.no_machine.specs.declared.turn.Stop.TheVariants as stop
-use Rattle.no_machine.proofs.Each.{each_compose, each_none, each_one, steps_of}
+use Rattle.no_machine.proofs.Each.{each_compose, each_first, each_none, each_number, each_costs, each_zero, steps_of}
 use Rattle.no_machine.proofs.Paying.{limited_none, row_costs}
 use Rattle.no_machine.proofs.Spinning.{never_after}
 
@@ -73,23 +73,47 @@ stuck_row left r e = stuck_whole left r (nat_lt left r.cost) refl (ap is_stuck e
 ends_so : (n : Next) (e : End) → n ≡ Ends e → EndsSo n e
 ends_so n e same = subst (λ (x : Next). EndsSo x e) (sym same) refl
 
+-- each instruction of a module without marks costs something
+pub paid_all : (p : Program) → HasNoMarks p.«module» → (s : State) → 1 ≤ (row p s).cost
+paid_all p marks s = row_costs p s (λ i is. marks s.frame.function s.frame.block s.frame.at i is)
+
 -- ---- turns inside, and no call behind them
 
-abbrev Below : Stop → ℕ → ℕ → Type 0
-Below stop.Spent done left = 0 < done
-Below _ done left = done < left
+abbrev Below : Stop → ℕ → ℕ → ℕ → Type 0
+Below stop.Spent done most left = (0 < done) × (done ≤ most)
+Below _ done most left = (done < left) × (done < most)
 
-pub below : (why : Stop) (done left : ℕ) → (why ≡ stop.Spent → 0 < done) → (why ≡ stop.Spent) ⊎ (done < left) → Below why done left
-below why done left all (inl e) = subst (λ (w : Stop). Below w done left) (sym e) (all e)
-below stop.Spent done left all (inr some) = all refl
-below stop.Grow done left all (inr some) = some
-below stop.NoMemory done left all (inr some) = some
-below stop.Outside done left all (inr some) = some
-below (stop.WantPage page) done left all (inr some) = some
-below (stop.Trapped trap) done left all (inr some) = some
-below (stop.Left v) done left all (inr some) = some
+pub below : (why : Stop) (done most left : ℕ) → (why ≡ stop.Spent → (0 < done) × (done ≤ most)) → (why ≡ stop.Spent) ⊎ ((done < left) × (done < most)) → Below why done most left
+below why done most left all (inl e) = subst (λ (w : Stop). Below w done most left) (sym e) (all e)
+below stop.Spent done most left all (inr some) = all refl
+below stop.Grow done most left all (inr some) = some
+below stop.NoMemory done most left all (inr some) = some
+below stop.Outside done most left all (inr some) = some
+below (stop.WantPage page) done most left all (inr some) = some
+below (stop.Trapped trap) done most left all (inr some) = some
+below (stop.Left v) done most left all (inr some) = some
 
-module _ {M : Type 0} (byte : M → ℕ → ℕ) (held : M → ℕ → Bool) (p : Program) (old mid : Machine M) (done : ℕ) (low : done ≤ left_of old) (within : old.count ≤ old.budget) (counted : mid.count ≡ old.count + done) (env : Env) (more : List ℕ) where
+-- where no more than one was to be done, one was, or none
+none_done : (why : Stop) (done most left : ℕ) → Below why done most left → most ≡ 1 → (told_of why ≡ burst.Stepped) ⊎ (done ≡ 0)
+none_done stop.Spent done most left some one = inl refl
+none_done stop.Grow done most left some one = inr (omega (arith, some.1, one))
+none_done stop.NoMemory done most left some one = inr (omega (arith, some.1, one))
+none_done stop.Outside done most left some one = inr (omega (arith, some.1, one))
+none_done (stop.WantPage page) done most left some one = inr (omega (arith, some.1, one))
+none_done (stop.Trapped trap) done most left some one = inr (omega (arith, some.1, one))
+none_done (stop.Left v) done most left some one = inr (omega (arith, some.1, one))
+
+one_done : (why : Stop) (done most left : ℕ) → Below why done most left → most ≡ 1 → told_of why ≡ burst.Stepped → done ≡ 1
+one_done stop.Spent done most left some one e = omega (arith, some.0, some.1, one)
+one_done stop.Grow done most left some one e = absurd cc
+one_done stop.NoMemory done most left some one e = absurd cc
+one_done stop.Outside done most left some one e = absurd cc
+one_done (stop.WantPage page) done most left some one e = absurd cc
+one_done (stop.Trapped trap) done most left some one e = absurd cc
+one_done (stop.Left (Some n)) done most left some one e = absurd cc
+one_done (stop.Left None) done most left some one e = absurd cc
+
+module _ {M : Type 0} (byte : M → ℕ → ℕ) (held : M → ℕ → Bool) (p : Program) (old mid : Machine M) (done : ℕ) (low : done ≤ left_of old) (within : old.count ≤ old.budget) (counted : mid.count ≡ old.count + done) (env : Env) (more : List ℕ) (marks : HasNoMarks p.«module») (most : ℕ) where
   abbrev closed : Stop → Machine M
   closed why = record mid { count = mid.count + cost_of why; end = end_by (told_of why) }
 
@@ -102,30 +126,30 @@ module _ {M : Type 0} (byte : M → ℕ → ℕ) (held : M → ℕ → Bool) (p 
   nothing : (r : Row) → r.sought ≡ [] → AreHeld (held mid.core.mem) r.sought
   nothing r e = subst (AreHeld (held mid.core.mem)) (sym e) (λ page touches. absurd touches)
 
-  halts : (why : Stop) (t : State) → Below why done (left_of old) → Halted p why (held mid.core.mem) t → Pauses (held mid.core.mem) (told_of why) done (next t) old (closed why) env
-  halts stop.Spent t some h = ((omega (arith, counted), refl), some)
+  halts : (why : Stop) (t : State) → Below why done most (left_of old) → Halted p why (held mid.core.mem) t → Pauses (held mid.core.mem) (told_of why) done (next t) old (closed why) env
+  halts stop.Spent t some h = ((omega (arith, counted), refl), some.0)
   halts stop.Grow t some h = (omega (arith, counted), refl)
   halts stop.NoMemory t some h = (omega (arith, counted), refl)
   halts stop.Outside t some h = (omega (arith, counted), refl)
   halts (stop.WantPage page) t some h =
-      ((omega (arith, counted), refl), subst (λ (r : Row). IsLowestAbsent (held mid.core.mem) (needed r) page) (sym (whole t (omega (arith, h.0, some)))) h.1)
+      ((omega (arith, counted), refl), subst (λ (r : Row). IsLowestAbsent (held mid.core.mem) (needed r) page) (sym (whole t (omega (arith, h.0, some.0)))) h.1)
   halts (stop.Trapped trap) t some h =
       let cost : (row p t).cost ≡ 1 = ap (λ (r : Row). r.cost) h in
-      let is : next t ≡ trapping trap = whole t (omega (arith, cost, some)) ∙ h in
+      let is : next t ≡ trapping trap = whole t (omega (arith, cost, some.0)) ∙ h in
       (ends_so (next t).next (end.Trapped trap) (ap (λ (r : Row). r.next) is), nothing (next t) (ap (λ (r : Row). r.sought) is), omega (arith, counted, ap (λ (r : Row). r.cost) is), refl)
   halts (stop.Left (Some n)) t some h =
       let cost : (row p t).cost ≡ 1 = ap (λ (r : Row). r.cost) h in
-      let is : next t ≡ plain (Leaves (Some n)) = whole t (omega (arith, cost, some)) ∙ h in
+      let is : next t ≡ plain (Leaves (Some n)) = whole t (omega (arith, cost, some.0)) ∙ h in
       (subst (λ (r : Row). EndsSo r.next (end.Exited (n % 256))) (sym is) refl, nothing (next t) (ap (λ (r : Row). r.sought) is), omega (arith, counted, ap (λ (r : Row). r.cost) is), refl)
   halts (stop.Left None) t some h =
       let cost : (row p t).cost ≡ 1 = ap (λ (r : Row). r.cost) h in
-      let is : next t ≡ plain (Leaves None) = whole t (omega (arith, cost, some)) ∙ h in
+      let is : next t ≡ plain (Leaves None) = whole t (omega (arith, cost, some.0)) ∙ h in
       ((omega (arith, counted), refl), subst (λ (r : Row). HasNoMeaning r.next) (sym is) tt)
 
   module _ (same_held : held mid.core.mem ≡ held old.core.mem) (same_heap : mid.core.heap ≡ old.core.heap) (s : State) (from : IsAt byte held p old env more s) where
     -- what was told of turns inside, where no call is behind them
-    pub told_run : (why : Stop) → Below why done (left_of old) → HasSpun p why done mid.core.at mid.core.base mid.core.sp mid.core.slots.items mid.core.frames.items (held old.core.mem) (byte mid.core.mem) s
-        → HasBurst byte held p (told_of why) old (closed why) env env more s
+    pub told_run : (why : Stop) → Below why done most (left_of old) → HasSpun p why done mid.core.at mid.core.base mid.core.sp mid.core.slots.items mid.core.frames.items (held old.core.mem) (byte mid.core.mem) s
+        → HasBurst byte held p most (told_of why) old (closed why) env env more s
     told_run why some spun = record {
       bytes = [];
       cost = done;
@@ -140,6 +164,8 @@ module _ {M : Type 0} (byte : M → ℕ → ℕ) (held : M → ℕ → Bool) (p 
         last = from.last;
       };
       stops = halts why spun.state some (subst (λ (h : ℕ → Bool). Halted p why h spun.state) (sym same_held) spun.stopped);
+      one = λ only e. each_first (HasPages (held old.core.mem)) p (paid_all p marks) s spun.state [] done spun.steps (one_done why done most (left_of old) some only e);
+      none = λ only. none_done why done most (left_of old) some only;
     }
 
 -- ---- a call behind them
@@ -159,7 +185,7 @@ cost_fits p out.Grow at base sp slots frames a more u left some t = omega arith
 cost_fits p out.NoMemory at base sp slots frames a more u left some t = omega arith
 cost_fits p out.Foreign at base sp slots frames a more u left some t = omega arith
 
-module _ {M : Type 0} (byte : M → ℕ → ℕ) (held : M → ℕ → Bool) (p : Program) (old mid last : Machine M) (done : ℕ) (some : done < left_of old) (within : old.count ≤ old.budget) (counted : last.count ≡ old.count + done) (before after : Env) (more : List ℕ) (marks : HasNoMarks p.«module») where
+module _ {M : Type 0} (byte : M → ℕ → ℕ) (held : M → ℕ → Bool) (p : Program) (old mid last : Machine M) (done : ℕ) (some : done < left_of old) (within : old.count ≤ old.budget) (counted : last.count ≡ old.count + done) (before after : Env) (more : List ℕ) (marks : HasNoMarks p.«module») (most : ℕ) (few : done < most) where
   abbrev ended : Out → Machine M
   ended what = record last { count = last.count + cost_by what; end = end_by (told_by what) }
 
@@ -185,8 +211,8 @@ module _ {M : Type 0} (byte : M → ℕ → ℕ) (held : M → ℕ → Bool) (p 
 
     -- the call was not done, and the machine stands where it stood
     calm_run : (what : Out) → last.core.at ≡ mid.core.at → last.core.base ≡ mid.core.base → IsCalmly p mid.core.at mid.core.base last.core.sp last.core.slots.items last.core.frames.items around u
-        → Pauses (held last.core.mem) (told_by what) done (step p left u) old (ended what) after → HasBurst byte held p (told_by what) old (ended what) before after more s
-    calm_run what same_at same_base calmly stops = record {
+        → (told_by what ≢ burst.Stepped) → Pauses (held last.core.mem) (told_by what) done (step p left u) old (ended what) after → HasBurst byte held p most (told_by what) old (ended what) before after more s
+    calm_run what same_at same_base calmly other stops = record {
       bytes = [];
       cost = done;
       state = u;
@@ -204,16 +230,20 @@ module _ {M : Type 0} (byte : M → ℕ → ℕ) (held : M → ℕ → Bool) (p 
         last = no_more;
       };
       stops = stops;
+      one = λ only e. absurd (other e);
+      none = λ only. inr (omega (arith, few, only));
     }
 
-    went_run : (to there cost : ℕ) → last.core.at ≡ to → last.core.base ≡ there → HasWent p to there cost last.core.sp last.core.slots.items last.core.frames.items around more (affordable left (row p u)) → HasBurst byte held p (told_by (out.On to there cost)) old (ended (out.On to there cost)) before after more s
+    went_run : (to there cost : ℕ) → last.core.at ≡ to → last.core.base ≡ there → HasWent p to there cost last.core.sp last.core.slots.items last.core.frames.items around more (affordable left (row p u)) → HasBurst byte held p most (told_by (out.On to there cost)) old (ended (out.On to there cost)) before after more s
     went_run to there cost same_at same_base t =
         let w = went left (row p u) t.output t.call t.state (ap (λ (r : Row). r.next) (sym (limits u)) ∙ t.next) in
         let is : affordable left (row p u) ≡ row p u = limits u ∙ w.same in
         let costs : (row p u).cost ≡ cost = ap (λ (r : Row). r.cost) (sym is) ∙ t.costs in
-        let paid : 1 ≤ (row p u).cost = row_costs p u (λ i is. marks u.frame.function u.frame.block u.frame.at i is) in
+        let paid : 1 ≤ (row p u).cost = paid_all p marks u in
         let pages : AreHeld (held old.core.mem) (needed (row p u)) = subst (λ (h : ℕ → Bool). AreHeld h (needed (row p u))) same_held (subst (λ (r : Row). AreHeld (held mid.core.mem) (needed r)) is t.present) in
-        let step_is : StepsEach (HasPages (held old.core.mem)) p u t.output cost t.state = subst (λ (k : ℕ). StepsEach (HasPages (held old.core.mem)) p u t.output k t.state) costs (each_one (HasPages (held old.core.mem)) p u t.state t.output t.call (ap (λ (r : Row). r.next) (sym is) ∙ t.next) pages) in
+        let next : (row p u).next ≡ Goes t.output t.call t.state = ap (λ (r : Row). r.next) (sym is) ∙ t.next in
+        let first = each_costs (HasPages (held old.core.mem)) p u t.state t.output t.call cost next costs pages in
+        let step_is : StepsEach (HasPages (held old.core.mem)) p u t.output cost t.state = first.0 in
         record {
           bytes = t.output;
           cost = done + cost;
@@ -232,26 +262,30 @@ module _ {M : Type 0} (byte : M → ℕ → ℕ) (held : M → ℕ → Bool) (p 
             last = no_more;
           };
           stops = ((omega (arith, counted), refl), omega (arith, paid, costs));
+          one = λ only e.
+              let zero' : spun.steps.number ≡ 0 = each_zero (HasPages (held old.core.mem)) p (paid_all p marks) s u [] done spun.steps (omega (arith, few, only)) in
+              omega (arith, each_number (HasPages (held old.core.mem)) p s u t.state [] t.output done cost spun.steps step_is, zero', first.1);
+          none = λ only. inl refl;
         }
 
     -- what was told of a call behind turns inside
     pub called_run : (what : Out) → Placed what mid.core.at mid.core.base last.core.at last.core.base → Outs p what mid.core.at mid.core.base last.core.sp last.core.slots.items last.core.frames.items around more u (affordable left (row p u))
-        → HasBurst byte held p (told_by what) old (ended what) before after more s
+        → HasBurst byte held p most (told_by what) old (ended what) before after more s
     called_run (out.On to there cost) place t = went_run to there cost place.0 place.1 t
-    called_run (out.Exited status) place t = calm_run (out.Exited status) place.0 place.1 t.3
+    called_run (out.Exited status) place t = calm_run (out.Exited status) place.0 place.1 t.3 (λ e. absurd cc)
         (ends_so (step p left u).next (end.Exited status) (ap (λ (r : Row). r.next) (sym (limits u)) ∙ t.0), present t.2, omega (arith, counted, t.1, ap (λ (r : Row). r.cost) (limits u)), refl)
-    called_run (out.Trapped trap) place t = calm_run (out.Trapped trap) place.0 place.1 t.3
+    called_run (out.Trapped trap) place t = calm_run (out.Trapped trap) place.0 place.1 t.3 (λ e. absurd cc)
         (ends_so (step p left u).next (end.Trapped trap) (ap (λ (r : Row). r.next) (sym (limits u)) ∙ t.0), present t.2, omega (arith, counted, t.1, ap (λ (r : Row). r.cost) (limits u)), refl)
-    called_run out.Over place t = calm_run out.Over place.0 place.1 t.3
+    called_run out.Over place t = calm_run out.Over place.0 place.1 t.3 (λ e. absurd cc)
         (ends_so (step p left u).next end.Unfinished (ap (λ (r : Row). r.next) (sym (limits u)) ∙ t.0), present t.2, omega (arith, counted, t.1, ap (λ (r : Row). r.cost) (limits u)), refl)
     called_run out.Stuck place t = absurd (spun.here.never [] 0 u (no_step p u) (stuck_row left (row p u) t))
-    called_run (out.WantPage page) place t = calm_run (out.WantPage page) place.0 place.1 t.1
+    called_run (out.WantPage page) place t = calm_run (out.WantPage page) place.0 place.1 t.1 (λ e. absurd cc)
         ((omega (arith, counted), refl), subst (λ (h : ℕ → Bool). IsLowestAbsent h (needed (step p left u)) page) (sym still_held) (subst (λ (r : Row). IsLowestAbsent (held mid.core.mem) (needed r) page) (limits u) t.0))
-    called_run out.WantInput place t = calm_run out.WantInput place.0 place.1 t.3
+    called_run out.WantInput place t = calm_run out.WantInput place.0 place.1 t.3 (λ e. absurd cc)
         ((omega (arith, counted), refl), ap (λ (r : Row). r.asks) (sym (limits u)) ∙ t.0, t.3.calm.rest ∙ t.1, same_ended ∙ t.2)
-    called_run out.Grow place t = calm_run out.Grow place.0 place.1 t (omega (arith, counted), refl)
-    called_run out.NoMemory place t = calm_run out.NoMemory place.0 place.1 t (omega (arith, counted), refl)
-    called_run out.Foreign place t = calm_run out.Foreign place.0 place.1 t (omega (arith, counted), refl)
+    called_run out.Grow place t = calm_run out.Grow place.0 place.1 t (λ e. absurd cc) (omega (arith, counted), refl)
+    called_run out.NoMemory place t = calm_run out.NoMemory place.0 place.1 t (λ e. absurd cc) (omega (arith, counted), refl)
+    called_run out.Foreign place t = calm_run out.Foreign place.0 place.1 t (λ e. absurd cc) (omega (arith, counted), refl)
 
 -- ---- as a machine runs
 
@@ -274,14 +308,14 @@ module _ {M : Type 0} (byte : M → ℕ → ℕ) (held : M → ℕ → Bool) (re
   counted_mid = ap (λ (m : Machine M). m.count) is_mid
 
   -- turns inside were all that was done
-  pub turns_run : done ≤ left_of old → (why ≡ stop.Spent → 0 < done) → (why ≡ stop.Spent) ⊎ (done < left_of old) → (told : Burst) (cost : ℕ) (result : Burst) (new : Machine M) → told ≡ told_of why → cost ≡ cost_of why → new ≡ record mid { count = mid.count + cost; end = end_by told } → result ≡ told
-      → (more : List ℕ) (s : State) → IsAt byte held (program_of regions a old) old before more s → HasBurst byte held (program_of regions a old) result old new before before more s
-  turns_run low all some told cost result new told_is cost_is new_is result_is more s from =
+  pub turns_run : HasNoMarks a.«module» → (most : ℕ) → done ≤ left_of old → (why ≡ stop.Spent → (0 < done) × (done ≤ most)) → (why ≡ stop.Spent) ⊎ ((done < left_of old) × (done < most)) → (told : Burst) (cost : ℕ) (result : Burst) (new : Machine M) → told ≡ told_of why → cost ≡ cost_of why → new ≡ record mid { count = mid.count + cost; end = end_by told } → result ≡ told
+      → (more : List ℕ) (s : State) → IsAt byte held (program_of regions a old) old before more s → HasBurst byte held (program_of regions a old) most result old new before before more s
+  turns_run marks most low all some told cost result new told_is cost_is new_is result_is more s from =
       let is : new ≡ record mid { count = mid.count + cost_of why; end = end_by (told_of why) } =
       new_is ∙ ap (λ (k : ℕ). record mid { count = mid.count + k; end = end_by told }) cost_is ∙ ap (λ (r : Burst). record mid { count = mid.count + cost_of why; end = end_by r }) told_is in
-      subst (λ (m : Machine M). HasBurst byte held (program_of regions a old) result old m before before more s) (sym is)
-      (subst (λ (r : Burst). HasBurst byte held (program_of regions a old) r old (record mid { count = mid.count + cost_of why; end = end_by (told_of why) }) before before more s) (sym (result_is ∙ told_is))
-      (told_run byte held (program_of regions a old) old mid done low within counted_mid before more same_held same_heap s from why (below why done (left_of old) all some) (spun s from.here)))
+      subst (λ (m : Machine M). HasBurst byte held (program_of regions a old) most result old m before before more s) (sym is)
+      (subst (λ (r : Burst). HasBurst byte held (program_of regions a old) most r old (record mid { count = mid.count + cost_of why; end = end_by (told_of why) }) before before more s) (sym (result_is ∙ told_is))
+      (told_run byte held (program_of regions a old) old mid done low within counted_mid before more marks most same_held same_heap s from why (below why done most (left_of old) all some) (spun s from.here)))
 
   -- a call stands behind them
   module _ (outside : why ≡ stop.Outside) (some : done < left_of old) (last : Machine M) (what : Out) (after : Env)
@@ -309,24 +343,24 @@ module _ {M : Type 0} (byte : M → ℕ → ℕ) (held : M → ℕ → Bool) (re
         let fits = cost_fits (program_of regions a old) what mid.core.at mid.core.base last.core.sp last.core.slots.items last.core.frames.items (record { held = held mid.core.mem; byte = byte mid.core.mem; after = byte last.core.mem; heap = mid.core.heap; heap_after = last.core.heap; env = before; env_after = after }) at.1 (spun_out at.0 at.2.here).state (left_of old - done) (omega (arith, some)) (outs_here at.1 at.0 at.2) in
         omega (arith, fits, is, counted_last, some, within)
 
-    pub call_run : HasNoMarks a.«module» → held last.core.mem ≡ held mid.core.mem → after.ended ≡ before.ended → Placed what mid.core.at mid.core.base last.core.at last.core.base → (told : Burst) (cost : ℕ) (result : Burst) (new : Machine M) → told ≡ told_by what → cost ≡ cost_by what → new ≡ record last { count = last.count + cost; end = end_by told } → result ≡ told
-        → (more : List ℕ) (s : State) → IsAt byte held (program_of regions a old) old before more s → HasBurst byte held (program_of regions a old) result old new before after more s
-    call_run marks still_held same_ended place told cost result new told_is cost_is new_is result_is more s from =
+    pub call_run : HasNoMarks a.«module» → (most : ℕ) → done < most → held last.core.mem ≡ held mid.core.mem → after.ended ≡ before.ended → Placed what mid.core.at mid.core.base last.core.at last.core.base → (told : Burst) (cost : ℕ) (result : Burst) (new : Machine M) → told ≡ told_by what → cost ≡ cost_by what → new ≡ record last { count = last.count + cost; end = end_by told } → result ≡ told
+        → (more : List ℕ) (s : State) → IsAt byte held (program_of regions a old) old before more s → HasBurst byte held (program_of regions a old) most result old new before after more s
+    call_run marks most few still_held same_ended place told cost result new told_is cost_is new_is result_is more s from =
         let is : new ≡ record last { count = last.count + cost_by what; end = end_by (told_by what) } =
         new_is ∙ ap (λ (k : ℕ). record last { count = last.count + k; end = end_by told }) cost_is ∙ ap (λ (r : Burst). record last { count = last.count + cost_by what; end = end_by r }) told_is in
-        subst (λ (m : Machine M). HasBurst byte held (program_of regions a old) result old m before after more s) (sym is)
-        (subst (λ (r : Burst). HasBurst byte held (program_of regions a old) r old (record last { count = last.count + cost_by what; end = end_by (told_by what) }) before after more s) (sym (result_is ∙ told_is))
-        (called_run byte held (program_of regions a old) old mid last done some within counted_last before after more marks same_held still_held same_heap same_ended s from (spun_out s from.here) what place (outs_here more s from)))
+        subst (λ (m : Machine M). HasBurst byte held (program_of regions a old) most result old m before after more s) (sym is)
+        (subst (λ (r : Burst). HasBurst byte held (program_of regions a old) most r old (record last { count = last.count + cost_by what; end = end_by (told_by what) }) before after more s) (sym (result_is ∙ told_is))
+        (called_run byte held (program_of regions a old) old mid last done some within counted_last before after more marks most few same_held still_held same_heap same_ended s from (spun_out s from.here) what place (outs_here more s from)))
 
 -- nothing was left to do anything with, and each instruction costs something
-pub none_left : {M : Type 0} (byte : M → ℕ → ℕ) (held : M → ℕ → Bool) (regions : M → Regions) (a : Accepted) (old : Machine M) (env : Env) → HasNoMarks a.«module» → left_of old ≡ 0 → (result : Burst) (new : Machine M) → new ≡ record old { count = old.count + 0; end = end_by (burst.Ended end.Unfinished) } → result ≡ burst.Ended end.Unfinished
-    → (more : List ℕ) (s : State) → IsAt byte held (program_of regions a old) old env more s → HasBurst byte held (program_of regions a old) result old new env env more s
-none_left {M = M} byte held regions a old env marks none result new new_is result_is more s from =
+pub none_left : {M : Type 0} (byte : M → ℕ → ℕ) (held : M → ℕ → Bool) (regions : M → Regions) (a : Accepted) (old : Machine M) (env : Env) → HasNoMarks a.«module» → left_of old ≡ 0 → (most : ℕ) (result : Burst) (new : Machine M) → new ≡ record old { count = old.count + 0; end = end_by (burst.Ended end.Unfinished) } → result ≡ burst.Ended end.Unfinished
+    → (more : List ℕ) (s : State) → IsAt byte held (program_of regions a old) old env more s → HasBurst byte held (program_of regions a old) most result old new env env more s
+none_left {M = M} byte held regions a old env marks none most result new new_is result_is more s from =
     let p : Program = program_of regions a old in
     let left : left_of old - 0 ≡ 0 = omega (arith, none) in
     let is : step p (left_of old - 0) s ≡ unfinished [] = ap (λ (k : ℕ). limited k (row p s)) left ∙ limited_none (row p s) (row_costs p s (λ i is. marks s.frame.function s.frame.block s.frame.at i is)) in
     let last : Machine M = record old { count = old.count + 0; end = Some end.Unfinished } in
-    let burst : HasBurst byte held p (burst.Ended end.Unfinished) old last env env more s = record {
+    let burst : HasBurst byte held p most (burst.Ended end.Unfinished) old last env env more s = record {
       bytes = [];
       cost = 0;
       state = s;
@@ -340,6 +374,8 @@ none_left {M = M} byte held regions a old env marks none result new new_is resul
         omega (arith, ap (λ (r : Row). r.cost) is),
         refl,
       );
+      one = λ only e. absurd cc;
+      none = λ only. inr refl;
     } in
-    subst (λ (m : Machine M). HasBurst byte held p result old m env env more s) (sym new_is)
-    (subst (λ (r : Burst). HasBurst byte held p r old last env env more s) (sym result_is) burst)
+    subst (λ (m : Machine M). HasBurst byte held p most result old m env env more s) (sym new_is)
+    (subst (λ (r : Burst). HasBurst byte held p most r old last env env more s) (sym result_is) burst)

@@ -33,3 +33,4 @@ pub mod Devices
 pub mod Staying
 pub mod Widening
 pub mod Slicing
+pub mod Stepping

@@ -36,7 +36,7 @@ pub record IsFinish (next : Next) (e : End) : Type 0 where
   pub ends : runs.end_of finish ≡ Some e
   pub is : (cost : ℕ) (s : State) (rest : State → Option runs.Whole) → runs.whole_by cost next s rest ≡ Some (runs.finished cost finish s)
 
-finish_of : (next : Next) (e : End) → EndsSo next e → IsFinish next e
+pub finish_of : (next : Next) (e : End) → EndsSo next e → IsFinish next e
 finish_of (Goes bytes call t) e so = absurd so
 finish_of (Leaves None) e so = absurd so
 finish_of (Leaves (Some n)) e so = record { finish = runs.Returned (Some n); ends = ap Some (sym so); is = λ cost s rest. refl }
@@ -100,8 +100,8 @@ module _ {M : Type 0} (byte : M → ℕ → ℕ) (held : M → ℕ → Bool) (p 
   }
 
   -- a burst that went on, or had too few slots for more
-  pub gone_by : (old new : Machine M) (before after : Env) (more : List ℕ) (s : State) (told : Burst) (b : HasBurst byte held p told old new before after more s) → GoesOn b.cost old new → after.ended ≡ before.ended → HasGone old new before after more s
-  gone_by old new before after more s told b goes same = record {
+  pub gone_by : (old new : Machine M) (before after : Env) (more : List ℕ) (s : State) (only : ℕ) (told : Burst) (b : HasBurst byte held p only told old new before after more s) → GoesOn b.cost old new → after.ended ≡ before.ended → HasGone old new before after more s
+  gone_by old new before after more s only told b goes same = record {
     bytes = b.bytes;
     cost = b.cost;
     state = b.state;
@@ -135,8 +135,8 @@ module _ {M : Type 0} (byte : M → ℕ → ℕ) (held : M → ℕ → Bool) (p 
     stops_as limit burst.Stuck bytes cost state one other steps afforded there stops = stops.1
     stops_as limit burst.NoMemory bytes cost state one other steps afforded there stops = (there, stops)
 
-    pub ran_by : (limit : ℕ) (told : Burst) → told ≢ burst.Stepped → told ≢ burst.Room → HasBurst byte held p told old new before after more s → HasRun byte held p limit (answer_of told) old new before after more s
-    ran_by limit told one other b = record {
+    pub ran_by : (only limit : ℕ) (told : Burst) → told ≢ burst.Stepped → told ≢ burst.Room → HasBurst byte held p only told old new before after more s → HasRun byte held p limit (answer_of told) old new before after more s
+    ran_by only limit told one other b = record {
       bytes = b.bytes;
       cost = b.cost;
       state = b.state;
@@ -182,8 +182,8 @@ module _ {M : Type 0} (byte : M → ℕ → ℕ) (held : M → ℕ → Bool) (p 
     pauses_then burst.Stuck h cost row t = ((omega (arith, t.0.0, gone.counted), t.0.1), t.1)
     pauses_then burst.NoMemory h cost row t = (omega (arith, t.0, gone.counted), t.1)
 
-    pub burst_then : (told : Burst) → HasBurst byte held p told mid new between after more gone.state → HasBurst byte held p told old new before after more s
-    burst_then told b =
+    pub burst_then : (only : ℕ) (told : Burst) → HasBurst byte held p only told mid new between after more gone.state → HasBurst byte held p 0 told old new before after more s
+    burst_then only told b =
         let left : left_of mid - b.cost ≡ left_of old - (gone.cost + b.cost) = omega (arith, gone.counted, same) in
         record {
           bytes = gone.bytes ++ b.bytes;
@@ -195,6 +195,8 @@ module _ {M : Type 0} (byte : M → ℕ → ℕ) (held : M → ℕ → Bool) (p 
           wrote = b.wrote ∙ ap (λ (o : List ℕ). o ++ b.bytes) gone.wrote ∙ append_assoc before.output.items gone.bytes b.bytes;
           at = b.at;
           stops = subst (λ (k : ℕ). Pauses (held new.core.mem) told (gone.cost + b.cost) (step p k b.state) old new after) left (pauses_then told (held new.core.mem) b.cost (step p (left_of mid - b.cost) b.state) b.stops);
+          one = λ e is. absurd (omega (arith, e));
+          none = λ e. absurd (omega (arith, e));
         }
 
 -- ---- what is counted
@@ -211,7 +213,7 @@ limited_fits left r = elim (cases_Bool (r.cost == 0)) [
   ]
 ]
 
-module _ {M : Type 0} (byte : M → ℕ → ℕ) (held : M → ℕ → Bool) (p : Program) (old new : Machine M) (before after : Env) (more : List ℕ) (s : State) where
+module _ {M : Type 0} (byte : M → ℕ → ℕ) (held : M → ℕ → Bool) (p : Program) (old new : Machine M) (before after : Env) (more : List ℕ) (s : State) (only : ℕ) where
   counted_by : (told : Burst) (h : ℕ → Bool) (cost : ℕ) (t : State) → cost ≤ left_of old → Pauses h told cost (step p (left_of old - cost) t) old new after → (count_of old ≤ count_of new) × (count_of new ≤ count_of old + left_of old)
   counted_by burst.Stepped h cost t most x = (omega (arith, x.0.0), omega (arith, x.0.0, most))
   counted_by burst.Room h cost t most x = (omega (arith, x.0), omega (arith, x.0, most))
@@ -224,19 +226,19 @@ module _ {M : Type 0} (byte : M → ℕ → ℕ) (held : M → ℕ → Bool) (p 
   counted_by burst.NoMemory h cost t most x = (omega (arith, x.0), omega (arith, x.0, most))
 
   -- what a burst counts fits what is left
-  pub counts_on : (told : Burst) → HasBurst byte held p told old new before after more s → (count_of old ≤ count_of new) × (count_of new ≤ count_of old + left_of old)
+  pub counts_on : (told : Burst) → HasBurst byte held p only told old new before after more s → (count_of old ≤ count_of new) × (count_of new ≤ count_of old + left_of old)
   counts_on told b = counted_by told (held new.core.mem) b.cost b.state b.afforded b.stops
 
   -- one that goes on counts something
-  pub counts_more : (told : Burst) → told ≡ burst.Stepped → HasBurst byte held p told old new before after more s → count_of old < count_of new
+  pub counts_more : (told : Burst) → told ≡ burst.Stepped → HasBurst byte held p only told old new before after more s → count_of old < count_of new
   counts_more told is b =
       let x : Pauses (held new.core.mem) burst.Stepped b.cost (step p (left_of old - b.cost) b.state) old new after = subst (λ (t : Burst). Pauses (held new.core.mem) t b.cost (step p (left_of old - b.cost) b.state) old new after) is b.stops in
       omega (arith, x.0.0, x.1)
 
-  goes_stepped : (told : Burst) → told ≡ burst.Stepped → (b : HasBurst byte held p told old new before after more s) → GoesOn b.cost old new
+  goes_stepped : (told : Burst) → told ≡ burst.Stepped → (b : HasBurst byte held p only told old new before after more s) → GoesOn b.cost old new
   goes_stepped told is b = (subst (λ (t : Burst). Pauses (held new.core.mem) t b.cost (step p (left_of old - b.cost) b.state) old new after) is b.stops).0
 
-  goes_room : (told : Burst) → told ≡ burst.Room → (b : HasBurst byte held p told old new before after more s) → GoesOn b.cost old new
+  goes_room : (told : Burst) → told ≡ burst.Room → (b : HasBurst byte held p only told old new before after more s) → GoesOn b.cost old new
   goes_room told is b = subst (λ (t : Burst). Pauses (held new.core.mem) t b.cost (step p (left_of old - b.cost) b.state) old new after) is b.stops
 
 -- ---- as a machine runs
@@ -265,24 +267,24 @@ module _ {M : Type 0} (byte : M → ℕ → ℕ) (held : M → ℕ → Bool) (re
   abbrev q : Program
   q = program_of regions a mid
 
-  module _ (did : (more : List ℕ) (s : State) → IsAt byte held q mid between more s → HasBurst byte held q told mid new between after more s) (same : after.ended ≡ between.ended) where
-    whole : (more : List ℕ) (s : State) → IsAt byte held p first begin more s → HasBurst byte held p told first new begin after more s
+  module _ (only : ℕ) (did : (more : List ℕ) (s : State) → IsAt byte held q mid between more s → HasBurst byte held q only told mid new between after more s) (same : after.ended ≡ between.ended) where
+    whole : (more : List ℕ) (s : State) → IsAt byte held p first begin more s → HasBurst byte held p 0 told first new begin after more s
     whole more s from =
         let g = gone more s from in
-        burst_then byte held p first mid new begin between after more s g stays.budget stays.same_pages most told
-        (subst (λ (x : Program). (n : List ℕ) (t : State) → IsAt byte held x mid between n t → HasBurst byte held x told mid new between after n t) (stays.same_program a) did more g.state g.at)
+        burst_then byte held p first mid new begin between after more s g stays.budget stays.same_pages most only told
+        (subst (λ (x : Program). (n : List ℕ) (t : State) → IsAt byte held x mid between n t → HasBurst byte held x only told mid new between after n t) (stays.same_program a) did more g.state g.at)
 
     same_all : (more : List ℕ) (s : State) → IsAt byte held p first begin more s → after.ended ≡ begin.ended
     same_all more s from = same ∙ (gone more s from).same_end
 
     pub other_ran : told ≢ burst.Stepped → told ≢ burst.Room → (limit : ℕ) (more : List ℕ) (s : State) → IsAt byte held p first begin more s → HasRun byte held p limit (answer_of told) first new begin after more s
-    other_ran one other limit more s from = ran_by byte held p first new begin after more s (same_all more s from) limit told one other (whole more s from)
+    other_ran one other limit more s from = ran_by byte held p first new begin after more s (same_all more s from) 0 limit told one other (whole more s from)
 
     pub gone_on : told ≡ burst.Stepped → (more : List ℕ) (s : State) → IsAt byte held p first begin more s → HasGone byte held p first new begin after more s
-    gone_on is more s from = (let b = whole more s from in gone_by byte held p first new begin after more s told b (goes_stepped byte held p first new begin after more s told is b) (same_all more s from))
+    gone_on is more s from = (let b = whole more s from in gone_by byte held p first new begin after more s 0 told b (goes_stepped byte held p first new begin after more s 0 told is b) (same_all more s from))
 
     pub gone_room : told ≡ burst.Room → (more : List ℕ) (s : State) → IsAt byte held p first begin more s → HasGone byte held p first new begin after more s
-    gone_room is more s from = (let b = whole more s from in gone_by byte held p first new begin after more s told b (goes_room byte held p first new begin after more s told is b) (same_all more s from))
+    gone_room is more s from = (let b = whole more s from in gone_by byte held p first new begin after more s 0 told b (goes_room byte held p first new begin after more s 0 told is b) (same_all more s from))
 
     -- what it counts
     module _ (at : (s : State) × (more : List ℕ) × IsAt byte held p first begin more s) where
@@ -290,13 +292,13 @@ module _ {M : Type 0} (byte : M → ℕ → ℕ) (held : M → ℕ → Bool) (re
       there = stands_for byte held regions a first mid begin between stays gone at
 
       pub counted_up : count_of mid ≤ count_of new
-      counted_up = (counts_on byte held q mid new between after there.1 there.0 told (did there.1 there.0 there.2)).0
+      counted_up = (counts_on byte held q mid new between after there.1 there.0 only told (did there.1 there.0 there.2)).0
 
       pub counted_fits : budget_of new ≡ budget_of mid → count_of new ≤ budget_of new
-      counted_fits e = (let c = counts_on byte held q mid new between after there.1 there.0 told (did there.1 there.0 there.2) in omega (arith, c.1, most, e))
+      counted_fits e = (let c = counts_on byte held q mid new between after there.1 there.0 only told (did there.1 there.0 there.2) in omega (arith, c.1, most, e))
 
       pub counted_more : told ≡ burst.Stepped → count_of mid < count_of new
-      counted_more is = counts_more byte held q mid new between after there.1 there.0 told is (did there.1 there.0 there.2)
+      counted_more is = counts_more byte held q mid new between after there.1 there.0 only told is (did there.1 there.0 there.2)
 
 -- slots were added behind it
 pub gone_widened : {M : Type 0} (byte : M → ℕ → ℕ) (held : M → ℕ → Bool) (p : Program) (first mid new : Machine M) (begin after : Env) → new ≡ record mid { core = new.core } → Grows mid.core new.core

@@ -1,5 +1,5 @@
 -- A burst of a run: instructions inside, and then at most one from outside.
-use Rattle.std.specs.Prelude.{◌≡◌, ℕ, Bool, true, false, ◌+◌, ◌-◌, ◌%◌, ◌<◌, ◌≤◌, List, [], ◌++◌, Option, Some, None}
+use Rattle.std.specs.Prelude.{◌≡◌, ◌⊎◌, ℕ, Bool, true, false, ◌+◌, ◌-◌, ◌%◌, ◌<◌, ◌≤◌, List, [], ◌++◌, Option, Some, None}
 use Rattle.no_ir.specs.declared.ending.End.{End}
 use Rattle.no_ir.specs.declared.ending.End.TheVariants as end
 use Rattle.no_lib.specs.declared.env.Env.{Env}
@@ -30,8 +30,8 @@ Pauses held (burst.Ended e) cost row old new after = EndsSo row.next e × AreHel
 Pauses held burst.Stuck cost row old new after = GoesOn cost old new × HasNoMeaning row.next
 Pauses held burst.NoMemory cost row old new after = GoesOn cost old new
 
--- steps were taken that go on, within what was left, and then came this answer; the machine stands for the state that they reach
-pub record HasBurst {M : Type 0} (byte : M → ℕ → ℕ) (held : M → ℕ → Bool) (p : Program) (told : Burst) (old new : Machine M) (before after : Env) (more : List ℕ) (s : State) : Type 0 where
+-- steps were taken that go on, within what was left, and then came this answer; the machine stands for the state that they reach. Where no more than one was to be done, one is what goes on, and nothing comes before another answer.
+pub record HasBurst {M : Type 0} (byte : M → ℕ → ℕ) (held : M → ℕ → Bool) (p : Program) (most : ℕ) (told : Burst) (old new : Machine M) (before after : Env) (more : List ℕ) (s : State) : Type 0 where
   pub bytes : List ℕ
   pub cost : ℕ
   pub state : State
@@ -40,6 +40,8 @@ pub record HasBurst {M : Type 0} (byte : M → ℕ → ℕ) (held : M → ℕ �
   pub wrote : after.output.items ≡ before.output.items ++ bytes
   pub at : IsAt byte held p new after more state
   pub stops : Pauses (held new.core.mem) told cost (step p (left_of old - cost) state) old new after
+  pub one : most ≡ 1 → told ≡ burst.Stepped → steps.number ≡ 1
+  pub none : most ≡ 1 → (told ≡ burst.Stepped) ⊎ (cost ≡ 0)
 
 -- ---- what is counted and told
 

@@ -201,7 +201,7 @@ impl<M: Memory> Machine<M> {
         requires running { end_of self.old ≡ None }
         requires some { 0 < most }
         requires at { (s : State) × (more : List ℕ) × IsAt M.byte M.held (program_of M.regions sound.now self.old) self.old env.old more s }
-        ensures burst { (more : List ℕ) → (s : State) → IsAt M.byte M.held (program_of M.regions sound.now self.old) self.old env.old more s → HasBurst M.byte M.held (program_of M.regions sound.now self.old) result self.old self.new env.old env.new more s }
+        ensures burst { (more : List ℕ) → (s : State) → IsAt M.byte M.held (program_of M.regions sound.now self.old) self.old env.old more s → HasBurst M.byte M.held (program_of M.regions sound.now self.old) most result self.old self.new env.old env.new more s }
         ensures made { IsMade sound.now self.new }
         ensures stays { Stays M.regions M.held self.old self.new }
         ensures ended { env.new.ended ≡ env.old.ended }

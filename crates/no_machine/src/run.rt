@@ -1,8 +1,9 @@
 ghost use Rattle.std.specs.Prelude.{◌≡◌, ◌+◌, ◌-◌, ◌≤◌, ℕ, List, None};
 ghost use Rattle.no_layout.specs.Memory.{IsPage};
+ghost use Rattle.no_semantics.specs.Acting.{step};
 ghost use Rattle.no_semantics.specs.States.{State};
 ghost use Rattle.no_machine.specs.Counted.{counted};
-ghost use Rattle.no_machine.specs.Ran.{HasNotMoved, HasRun, IsAt, IsMade, Stays, budget_of, count_of, end_of, memory_of, program_of};
+ghost use Rattle.no_machine.specs.Ran.{HasNotMoved, HasRun, IsAt, IsMade, Stays, Takes, budget_of, count_of, end_of, left_of, memory_of, program_of};
 
 use crate::Steps;
 use crate::burst::{Burst, answer_of};
@@ -81,6 +82,65 @@ impl<M: Memory> Machine<M> {
         }
         let start = self.count;
         let told = self.go_on(sound, limit, env);
+        let _blocks = self.core.heap.blocks();
+        steps.count(sound.role(), self.count - start);
+        told
+    }
+
+    /// The next instruction of a machine that has not ended.
+    fn take_row(&mut self, sound: &Sound, env: &mut Env) -> StepAnswer
+        requires made { IsMade sound.now self.old }
+        requires within { count_of self.old ≤ budget_of self.old }
+        requires running { end_of self.old ≡ None }
+        requires at { (s : State) × (more : List ℕ) × IsAt M.byte M.held (program_of M.regions sound.now self.old) self.old env.old more s }
+        ensures takes { (more : List ℕ) → (s : State) → IsAt M.byte M.held (program_of M.regions sound.now self.old) self.old env.old more s → Takes M.byte M.held (program_of M.regions sound.now self.old) s (step (program_of M.regions sound.now self.old) (left_of self.old) s) more result self.old self.new env.old env.new }
+        ensures made { IsMade sound.now self.new }
+        ensures stays { Stays M.regions M.held self.old self.new }
+        ensures within { count_of self.new ≤ budget_of self.new }
+        ensures later { count_of self.old ≤ count_of self.new }
+        ensures same_end { env.new.ended ≡ env.old.ended }
+    {
+        'rows: loop {
+            let told = self.burst(sound, 1, env);
+            match told {
+                Burst::Room => {
+                    if !self.core.widen() {
+                        return StepAnswer::NoMemory;
+                    }
+                }
+                _ => return answer_of(told),
+            }
+        }
+    }
+
+    /// Does one instruction, and counts it, or says why not.
+    ///
+    /// What is said holds of every state for which the machine stands and from which no run gets stuck.
+    pub fn step<L: Ledger>(
+        &mut self,
+        sound: &Sound,
+        env: &mut Env,
+        steps: &mut Steps<L>,
+    ) -> StepAnswer
+        requires made { IsMade sound.now self.old }
+        requires within { count_of self.old ≤ budget_of self.old }
+        requires at { end_of self.old ≡ None → (s : State) × (more : List ℕ) × IsAt M.byte M.held (program_of M.regions sound.now self.old) self.old env.old more s }
+        ensures takes { end_of self.old ≡ None → (more : List ℕ) → (s : State) → IsAt M.byte M.held (program_of M.regions sound.now self.old) self.old env.old more s → Takes M.byte M.held (program_of M.regions sound.now self.old) s (step (program_of M.regions sound.now self.old) (left_of self.old) s) more result self.old self.new env.old env.new }
+        ensures over { HasNotMoved (end_of self.old) result self.old self.new env.old env.new }
+        ensures stays { Stays M.regions M.held self.old self.new }
+        ensures within { count_of self.new ≤ budget_of self.new }
+        ensures later { count_of self.old ≤ count_of self.new }
+        ensures made { IsMade sound.now self.new }
+        ensures inside { (page : ℕ) → result ≡ StepAnswer.WantPage page → IsPage (M.regions (memory_of self.new)) page }
+        ensures same_end { env.new.ended ≡ env.old.ended }
+        // The counter rises by what was counted.
+        ensures counts { steps.new ≡ counted sound.now.role (count_of self.new - count_of self.old) steps.old }
+    {
+        if let Some(end) = self.end {
+            return StepAnswer::Ended(end);
+        }
+        let start = self.count;
+        let told = self.take_row(sound, env);
         let _blocks = self.core.heap.blocks();
         steps.count(sound.role(), self.count - start);
         told
