@@ -16,7 +16,7 @@ use Rattle.no_semantics.proofs.Running.{affords, no_step, went}
 use Rattle.no_semantics.specs.Rows.{EndsSo, HasNoMeaning}
 use Rattle.no_machine.specs.Outside.{Around, HasWent, IsCalmly, Outs, Placed}
 use Rattle.no_machine.specs.Burst.{HasBurst, Pauses, cost_by, cost_of, end_by, told_by, told_of}
-use Rattle.no_machine.specs.Ran.{GoesOn, IsAt, Stays, left_of, program_of}
+use Rattle.no_machine.specs.Ran.{IsAt, left_of, program_of}
 use Rattle.no_machine.specs.Standing.{Stands}
 use Rattle.no_machine.specs.Turning.{IsHere, program_with}
 use Rattle.no_machine.specs.Each.{HasPages, StepsEach}

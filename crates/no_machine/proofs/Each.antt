@@ -1,10 +1,10 @@
 -- Steps of each of whose rows something holds compose.
-use Rattle.std.proofs.Common.{◌≡◌, ℕ, zero, suc, ◌+◌, ◌≤◌, List, [], ◌++◌, append-nil, append_assoc, Option, Some, option_map, refl, sym, ap, subst, ◌∙◌, arith}
+use Rattle.std.proofs.Common.{◌≡◌, ℕ, zero, suc, ◌+◌, ◌≤◌, List, [], ◌++◌, append-nil, append_assoc, Option, Some, refl, sym, ap, subst, ◌∙◌, arith}
 use Rattle.std.proofs.lemmas.Option.{same_Some}
 use Rattle.no_semantics.specs.Acting.{row}
 use Rattle.no_semantics.specs.Rows.{Row, Next, Calling, Goes}
 use Rattle.no_semantics.specs.States.{State}
-use Rattle.no_semantics.specs.Steps.{Reached, Steps, after, from_there, here}
+use Rattle.no_semantics.specs.Steps.{Reached, Steps, after, here}
 use Rattle.no_semantics.specs.Values.{Program}
 use Rattle.no_semantics.proofs.Running.{IsFirst, before_others, first_of, joined}
 use Rattle.no_machine.specs.Each.{AllRows, StepsEach, ThenAll}

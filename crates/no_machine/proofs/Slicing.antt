@@ -8,9 +8,8 @@ use Rattle.no_layout.specs.declared.memory.Regions.{Regions}
 use Rattle.no_lib.specs.declared.env.Env.{Env}
 use Rattle.no_semantics.specs.Accepted.{Accepted}
 use Rattle.no_semantics.specs.Acting.{row, step}
-use Rattle.no_semantics.specs.Rows.{Row, Next, EndsSo, Goes, Ends, Leaves, Stuck, limited, needed}
+use Rattle.no_semantics.specs.Rows.{Row, Next, EndsSo, Goes, Ends, Leaves, Stuck, limited}
 use Rattle.no_semantics.specs.Runs as runs
-use Rattle.no_semantics.specs.Spans.{IsLowestAbsent}
 use Rattle.no_semantics.specs.States.{State}
 use Rattle.no_semantics.specs.Steps.{Steps}
 use Rattle.no_semantics.specs.Values.{Program}

@@ -1,5 +1,5 @@
 -- One instruction of a machine.
-use Rattle.std.proofs.Common.{◌≡◌, ◌≢◌, ◌⊎◌, inl, inr, ℕ, ◌+◌, ◌-◌, ◌≤◌, ◌<◌, ◌^◌, Bool, List, [], ◌++◌, append-nil, None, refl, sym, ap, subst, ◌∙◌, arith}
+use Rattle.std.proofs.Common.{◌≡◌, ◌≢◌, inl, inr, ℕ, ◌+◌, ◌-◌, ◌≤◌, ◌<◌, ◌^◌, Bool, List, [], ◌++◌, append-nil, None, refl, sym, ap, subst, ◌∙◌, arith}
 use Rattle.no_heap.specs.Blocks.{AreLive}
 use Rattle.no_ir.specs.declared.ending.End.{End}
 use Rattle.no_layout.specs.Memory.{IsPage}
@@ -7,7 +7,7 @@ use Rattle.no_layout.specs.declared.memory.Regions.{Regions}
 use Rattle.no_lib.specs.declared.env.Env.{Env}
 use Rattle.no_semantics.specs.Accepted.{Accepted}
 use Rattle.no_semantics.specs.Acting.{row, step}
-use Rattle.no_semantics.specs.Rows.{Row, limited, needed}
+use Rattle.no_semantics.specs.Rows.{Row, needed}
 use Rattle.no_semantics.specs.Runs as runs
 use Rattle.no_semantics.specs.Spans.{AreHeld}
 use Rattle.no_semantics.specs.States.{HasNoMarks, State}

@@ -1,5 +1,5 @@
 -- More slots leave a machine where it stands.
-use Rattle.std.proofs.Common.{◌≡◌, ℕ, zero, suc, ◌+◌, ◌≤◌, ◌<◌, Bool, List, [], ◌∷◌, ◌++◌, length, take, drop, slice_get, Some, refl, sym, ap, subst, ◌∙◌, arith}
+use Rattle.std.proofs.Common.{◌≡◌, ℕ, zero, suc, ◌+◌, ◌≤◌, Bool, List, [], ◌∷◌, ◌++◌, length, take, drop, slice_get, Some, refl, sym, ap, subst, arith}
 use Rattle.no_semantics.specs.Registers.{Registers}
 use Rattle.no_semantics.specs.States.{State}
 use Rattle.no_semantics.specs.Values.{Program}

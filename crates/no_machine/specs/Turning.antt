@@ -1,5 +1,5 @@
 -- What one turn of the machine does: one instruction that needs nothing from outside.
-use Rattle.std.specs.Prelude.{ℕ, ◌≡◌, Bool, true, Option, Some, None, List, [], slice_get}
+use Rattle.std.specs.Prelude.{ℕ, ◌≡◌, Bool, true, Option, Some, List, [], slice_get}
 use Rattle.no_ir.specs.declared.function.Function.{Function}
 use Rattle.no_ir.specs.declared.function.Module.{Module}
 use Rattle.no_layout.specs.Memory.{Agrees}

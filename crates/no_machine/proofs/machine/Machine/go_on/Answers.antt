@@ -1,4 +1,4 @@
-use Rattle.std.proofs.Common.{rules, ◌≡◌, ◌^◌, ◌<◌, ◌≤◌, ◌∙◌, length, refl, sym, subst, arith}
+use Rattle.std.proofs.Common.{rules, ◌^◌, ◌<◌, ◌≤◌, ◌∙◌, length, refl, sym, subst, arith}
 use Rattle.no_machine.specs.Ran.{HasRun, count_of, budget_of, program_of}
 use Rattle.no_machine.specs.declared.machine.StepAnswer.{StepAnswer}
 use Rattle.no_machine.proofs.Slicing.{count_less, counted_fits, counted_more, counted_up, gone_nowhere, gone_on, gone_room, gone_widened, lacked, other_ran, reached, room_less, stands_for}

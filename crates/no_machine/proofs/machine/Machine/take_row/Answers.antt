@@ -1,6 +1,6 @@
-use Rattle.std.proofs.Common.{rules, ◌≡◌, ◌+◌, ◌^◌, ◌<◌, ◌≤◌, ◌∙◌, length, refl, sym, subst, arith}
+use Rattle.std.proofs.Common.{rules, ◌≡◌, ◌^◌, ◌<◌, ◌∙◌, length, refl, sym, subst, arith}
 use Rattle.no_semantics.specs.Acting.{step}
-use Rattle.no_machine.specs.Ran.{Takes, budget_of, count_of, left_of, program_of}
+use Rattle.no_machine.specs.Ran.{Takes, count_of, left_of, program_of}
 use Rattle.no_machine.specs.declared.machine.StepAnswer.{StepAnswer}
 use Rattle.no_machine.proofs.Stepping.{kept_first, kept_for, kept_lacks, kept_wider, row_counts, row_kept, row_takes, slots_less}
 use Rattle.no_machine.proofs.Staying.{made_still, rest_core, stays_here, stays_then, stays_wider}

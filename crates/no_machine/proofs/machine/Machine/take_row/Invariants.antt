@@ -1,7 +1,7 @@
-use Rattle.std.proofs.Common.{◌≡◌, ◌-◌, ◌^◌, ◌≤◌, ℕ, List, None, length}
+use Rattle.std.proofs.Common.{◌≡◌, ◌-◌, ◌^◌, ℕ, List, None, length}
 use Rattle.no_semantics.specs.States.{State}
 use Rattle.no_machine.proofs.Stepping.{HasKept}
-use Rattle.no_machine.specs.Ran.{IsAt, IsMade, Stays, budget_of, count_of, end_of, program_of}
+use Rattle.no_machine.specs.Ran.{IsAt, IsMade, Stays, count_of, end_of, program_of}
 use Rattle.no_machine.proofs.machine.Machine.take_row.Given as goal
 
 abbrev pub invariant-rows : goal.invariant-rows
