@@ -183,7 +183,6 @@ cost_fits p (out.WantPage page) at base sp slots frames a more u left some t = o
 cost_fits p out.WantInput at base sp slots frames a more u left some t = omega arith
 cost_fits p out.Grow at base sp slots frames a more u left some t = omega arith
 cost_fits p out.NoMemory at base sp slots frames a more u left some t = omega arith
-cost_fits p out.Foreign at base sp slots frames a more u left some t = omega arith
 
 module _ {M : Type 0} (byte : M → ℕ → ℕ) (held : M → ℕ → Bool) (p : Program) (old mid last : Machine M) (done : ℕ) (some : done < left_of old) (within : old.count ≤ old.budget) (counted : last.count ≡ old.count + done) (before after : Env) (more : List ℕ) (marks : HasNoMarks p.«module») (most : ℕ) (few : done < most) where
   abbrev ended : Out → Machine M
@@ -285,7 +284,6 @@ module _ {M : Type 0} (byte : M → ℕ → ℕ) (held : M → ℕ → Bool) (p 
         ((omega (arith, counted), refl), ap (λ (r : Row). r.asks) (sym (limits u)) ∙ t.0, t.3.calm.rest ∙ t.1, same_ended ∙ t.2)
     called_run out.Grow place t = calm_run out.Grow place.0 place.1 t (λ e. absurd cc) (omega (arith, counted), refl)
     called_run out.NoMemory place t = calm_run out.NoMemory place.0 place.1 t (λ e. absurd cc) (omega (arith, counted), refl)
-    called_run out.Foreign place t = calm_run out.Foreign place.0 place.1 t (λ e. absurd cc) (omega (arith, counted), refl)
 
 -- ---- as a machine runs
 

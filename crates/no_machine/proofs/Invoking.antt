@@ -219,6 +219,10 @@ pub record Invokes (p : Program) (formed : IsTrue (is_formed p.layout)) (code : 
   pub ordered : from ≤ to
   pub within : to ≤ length code.arguments
   pub read : (window : List ℕ) (covers : Covers s.frame.registers window) → AreRead p formed code s.frame.registers window covers (slice_range code.arguments from to) numbers
+  pub t : Ty
+  pub callee : Operand
+  pub given' : List (Ty × Operand)
+  pub calls : i.op ≡ op.Call t callee given'
 
 pub invokes_by_name : (p : Program) (formed : IsTrue (is_formed p.layout)) (code : Code) (s : State) (at : ℕ) (window : List ℕ) (here : IsFrameAt p.«module» s.frame at window) (cur : Current p code s at window here) (into f from to : ℕ)
     → IsCall (source_of p) (length s.frame.registers) code into f from to cur.instr → Invokes p formed code s cur.instr into f from to
@@ -237,6 +241,10 @@ invokes_by_name p formed code s at window here cur into f from to r =
       ordered = r.range.ordered;
       within = r.range.within;
       read = λ w low. subst (λ (l : List Argument). AreRead p formed code s.frame.registers w low l k.0) (sym r.range.is) (arguments_read p formed code s.frame.registers w low r.given r.arguments k.0 fits r.each k.2);
+      t = r.t;
+      callee = r.callee;
+      given' = r.given;
+      calls = r.is;
     }
 
 module _ (p : Program) (formed : IsTrue (is_formed p.layout)) (code : Code) (is : IsCode (source_of p) code) (declared : List Bool) (flags : AreDeclared p.«module» declared) (s : State) (at base sp : ℕ) (slots : List ℕ) (frames : List Saved) (st : Stands p at base sp slots frames s)
@@ -280,7 +288,7 @@ module _ (p : Program) (formed : IsTrue (is_formed p.layout)) (code : Code) (is 
     still u = record { stands = untouched_stands p at base sp after slots new frames now s u st; bytes = refl }
 
     pub call_turned : (result : Turn) → Called result code (is_declared known.function) own.home callee.home at base into from to slots new frames now sp after → Turned p result at base after new now held byte byte s
-    call_turned (turn.Halt stop.Outside) c = (tt, still c.1)
+    call_turned (turn.Halt stop.Outside) c = (record { instr = cur.instr; is = cur.instr_is; result = known.t; callee = known.callee; arguments = known.given'; calls = known.calls }, still c.1)
     call_turned (turn.Halt stop.Grow) c = (tt, still c)
     call_turned (turn.Halt stop.NoMemory) c = (tt, still c)
     call_turned (turn.Halt (stop.Trapped t)) c =
@@ -416,5 +424,9 @@ points p formed code s at window here cur into from to r =
             ordered = omega (arith, split.1);
             within = r.range.within;
             read = λ w low. subst (λ (l : List Argument). AreRead p formed code s.frame.registers w low l c.0) (sym split.2) (arguments_read p formed code s.frame.registers w low r.given r.arguments c.0 parts.1 r.each c.2);
+            t = r.t;
+            callee = r.callee;
+            given' = r.given;
+            calls = r.is;
           };
     }

@@ -160,7 +160,6 @@ module _ (p : Program) (code : Code) (s : State) (at base sp : ℕ) (slots : Lis
   yields_outs value sp_after goes traps none (out.WantPage page) y = absurd y
   yields_outs value sp_after goes traps none out.WantInput y = absurd y
   yields_outs value sp_after goes traps none out.Grow y = absurd y
-  yields_outs value sp_after goes traps none out.Foreign y = absurd y
 
 -- ---- calls of functions
 

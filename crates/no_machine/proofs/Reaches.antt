@@ -1,8 +1,10 @@
 -- The call of the cell at which a machine stands.
-use Rattle.std.proofs.Common.{◌≡◌, ℕ, ◌+◌, ◌^◌, ◌<◌, ◌≤◌, ◌++◌, Bool, true, IsTrue, List, [], length, drop, slice_get, slice_range, Option, Some, None, refl, sym, ap, subst, ◌∙◌, arith}
-use Rattle.std.proofs.lemmas.Option.{slice_get_within}
+use Rattle.std.proofs.Common.{◌≡◌, ◌⊎◌, inl, inr, ℕ, ◌+◌, ◌^◌, ◌<◌, ◌≤◌, ◌++◌, Bool, true, false, true≢false, IsTrue, List, [], length, drop, slice_get, slice_range, Option, Some, None, refl, sym, ap, subst, ◌∙◌, arith}
+use Rattle.std.proofs.lemmas.Option.{same_Some, slice_get_within}
 use Rattle.no_ir.specs.declared.ending.Trap.TheVariants.{BadFunction}
 use Rattle.no_ir.specs.declared.instruction.Instr.{Instr}
+use Rattle.no_ir.specs.declared.function.Function.{Function}
+use Rattle.no_ir.specs.declared.instruction.Op.{Op}
 use Rattle.no_ir.specs.declared.instruction.Op.TheVariants as op
 use Rattle.no_ir.specs.declared.instruction.Operand.{Operand}
 use Rattle.no_ir.specs.declared.types.Ty.{Ty}
@@ -22,11 +24,12 @@ use Rattle.no_code.specs.declared.code.Cell.{Cell}
 use Rattle.no_code.specs.declared.code.Cell.TheVariants as cell
 use Rattle.no_code.specs.declared.code.Code.{Code}
 use Rattle.no_code.specs.declared.code.Place.{Place}
-use Rattle.no_code.specs.Coded.{IsCell, first_cell}
+use Rattle.no_code.specs.Coded.{IsCell, first_cell, is_phi}
+use Rattle.no_code.specs.Source.{Source}
 use Rattle.no_machine.specs.Outside.{AreExternals, Around, Invoked, IsCalm, IsReadyInvoke, Outs, instr_of, reach_of}
 use Rattle.no_machine.specs.Slots.{IsSlotIn, value_in}
 use Rattle.no_machine.specs.Standing.{source_of}
-use Rattle.no_machine.specs.Turning.{AreFacts, IsHere, program_with}
+use Rattle.no_machine.specs.Turning.{AreFacts, IsCalling, IsHere, program_with}
 use Rattle.no_machine.specs.declared.frame.Saved.{Saved}
 use Rattle.no_machine.specs.declared.out.Out.{Out}
 use Rattle.no_machine.specs.declared.out.Out.TheVariants as out
@@ -35,6 +38,66 @@ use Rattle.no_machine.proofs.Invoking.{Invokes, Points, invokes_by_name, points}
 use Rattle.no_machine.proofs.Locating.{Current}
 use Rattle.no_machine.proofs.Outs.{afford, each_here, invoke_ready, invoked_outs}
 use Rattle.no_machine.proofs.Turns.{at_inside, cell_is, cur, formed, live}
+
+-- ---- cells of calls
+
+abbrev pub IsCallCell : Cell → Type 0
+IsCallCell c = ((into : ℕ) × (f : ℕ) × (from : ℕ) × (to : ℕ) × (c ≡ cell.Call into f from to)) ⊎ ((into : ℕ) × (from : ℕ) × (to : ℕ) × (c ≡ cell.CallAt into from to))
+
+abbrev is_call : Op → Bool
+is_call (op.Call t callee args) = true
+is_call _ = false
+
+module _ (S : Source) (n : ℕ) (code : Code) (g : Function) (base label : ℕ) (i : Instr) (t : Ty) (callee : Operand) (args : List (Ty × Operand)) (is : i.op ≡ op.Call t callee args) where
+  no_call : is_call i.op ≡ false → ⊥
+  no_call e = true≢false (sym (ap is_call is) ∙ e)
+
+  call_cell : (c : Cell) → IsCell S n code g base label i c → IsCallCell c
+  call_cell cell.Nothing r = absurd r
+  call_cell cell.Phi r = absurd (true≢false (sym r ∙ ap is_phi is))
+  call_cell (cell.Add w into x y) r = absurd (no_call (ap is_call r.is))
+  call_cell (cell.Sub w into x y) r = absurd (no_call (ap is_call r.is))
+  call_cell (cell.Mul w into x y) r = absurd (no_call (ap is_call r.is))
+  call_cell (cell.UDiv w into x y) r = absurd (no_call (ap is_call r.is))
+  call_cell (cell.URem w into x y) r = absurd (no_call (ap is_call r.is))
+  call_cell (cell.SDiv w into x y) r = absurd (no_call (ap is_call r.is))
+  call_cell (cell.SRem w into x y) r = absurd (no_call (ap is_call r.is))
+  call_cell (cell.Shl w into x y) r = absurd (no_call (ap is_call r.is))
+  call_cell (cell.LShr w into x y) r = absurd (no_call (ap is_call r.is))
+  call_cell (cell.AShr w into x y) r = absurd (no_call (ap is_call r.is))
+  call_cell (cell.And w into x y) r = absurd (no_call (ap is_call r.is))
+  call_cell (cell.Or w into x y) r = absurd (no_call (ap is_call r.is))
+  call_cell (cell.Xor w into x y) r = absurd (no_call (ap is_call r.is))
+  call_cell (cell.Eq w into x y) r = absurd (no_call (ap is_call r.is))
+  call_cell (cell.Ne w into x y) r = absurd (no_call (ap is_call r.is))
+  call_cell (cell.Ugt w into x y) r = absurd (no_call (ap is_call r.is))
+  call_cell (cell.Uge w into x y) r = absurd (no_call (ap is_call r.is))
+  call_cell (cell.Ult w into x y) r = absurd (no_call (ap is_call r.is))
+  call_cell (cell.Ule w into x y) r = absurd (no_call (ap is_call r.is))
+  call_cell (cell.Sgt w into x y) r = absurd (no_call (ap is_call r.is))
+  call_cell (cell.Sge w into x y) r = absurd (no_call (ap is_call r.is))
+  call_cell (cell.Slt w into x y) r = absurd (no_call (ap is_call r.is))
+  call_cell (cell.Sle w into x y) r = absurd (no_call (ap is_call r.is))
+  call_cell (cell.Trunc w v into x) r = absurd (no_call (ap is_call r.is))
+  call_cell (cell.ZExt w v into x) r = absurd (no_call (ap is_call r.is))
+  call_cell (cell.SExt w v into x) r = absurd (no_call (ap is_call r.is))
+  call_cell (cell.PtrToInt w v into x) r = absurd (no_call (ap is_call r.is))
+  call_cell (cell.IntToPtr w v into x) r = absurd (no_call (ap is_call r.is))
+  call_cell (cell.BitCast w v into x) r = absurd (no_call (ap is_call r.is))
+  call_cell (cell.Copy into x) r = absurd (no_call (ap is_call r.is))
+  call_cell (cell.Select into z x y) r = absurd (no_call (ap is_call r.is))
+  call_cell (cell.Alloca into x stride align) r = absurd (no_call (ap is_call r.is))
+  call_cell (cell.Load w into x) r = absurd (no_call (ap is_call r.is))
+  call_cell (cell.Store w y x) r = absurd (no_call (ap is_call r.is))
+  call_cell (cell.Gep into x from to) r = absurd (no_call (ap is_call r.is))
+  call_cell (cell.Br e) r = absurd (no_call (ap is_call r.is))
+  call_cell (cell.CondBr x e f) r = absurd (no_call (ap is_call r.is))
+  call_cell (cell.Switch x e from to) r = absurd (no_call (ap is_call r.is))
+  call_cell (cell.Ret x) r = absurd (no_call (ap is_call r.is))
+  call_cell (cell.Call into f from to) r = inl (into, f, from, to, refl)
+  call_cell (cell.CallAt into from to) r = inr (into, from, to, refl)
+  call_cell cell.Leave r = absurd (no_call (ap is_call r))
+  call_cell cell.Unreachable r = absurd (no_call (ap is_call r))
 
 module _ (a : Accepted) (addresses : List ℕ) (regions : Regions) (code : Code) (cells : List Cell) (constants : List ℕ) (declared : List Bool) (big : Bool) (pointer : ℕ) (facts : AreFacts a addresses code cells constants declared big pointer)
     (externals : List (Option External)) (table : AreExternals a.«module» a.role externals)
@@ -52,6 +115,18 @@ module _ (a : Accepted) (addresses : List ℕ) (regions : Regions) (code : Code)
   means_as c e =
       subst (λ (x : Cell). IsCell (source_of p) (length s.frame.registers) code here.stands.frame.function (first_cell p.«module».functions s.frame.function) C.from.label C.instr x)
       (sym (cell_is a addresses regions code cells constants declared big pointer facts at base sp slots frames held byte s here c e)) C.means
+
+  -- the cell of a call
+  is_call_cell : IsCalling p s → (c : Cell) → slice_get cells at ≡ Some c → IsCallCell c
+  is_call_cell calling c e =
+      let same : C.instr ≡ calling.instr = same_Some C.instr calling.instr (sym C.instr_is ∙ calling.is) in
+      call_cell (source_of p) (length s.frame.registers) code here.stands.frame.function (first_cell p.«module».functions s.frame.function) C.from.label C.instr calling.result calling.callee calling.arguments (ap (λ (i : Instr). i.op) same ∙ calling.calls) c (means_as c e)
+
+  pub no_other : IsCalling p s → (c : Cell) → slice_get cells at ≡ Some c → ((into f from to : ℕ) → c ≡ cell.Call into f from to → ⊥) → ((into from to : ℕ) → c ≡ cell.CallAt into from to → ⊥) → ⊥
+  no_other calling c e by_name' by_pointer' = elim (is_call_cell calling c e) [
+    | inl k ↦ by_name' k.0 k.1 k.2 k.3 k.4
+    | inr k ↦ by_pointer' k.0 k.1 k.2 k.3
+  ]
 
   pub next_fits : length cells < 2 ^ 64 → at + 1 < 2 ^ 64
   next_fits few = omega (arith, few, at_inside a addresses regions code cells constants declared big pointer facts at base sp slots frames held byte s here)

@@ -182,7 +182,11 @@ module _ (a : Accepted) (addresses : List ℕ) (regions : Regions) (code : Code)
     plain_turned did.NoMemory plain acted s here =
         (tt, still at base sp slots frames held byte s here c cell_at new after sp_after did.NoMemory below long acted (says at base sp slots frames held byte s here c cell_at new after sp_after did.NoMemory below long acted))
     plain_turned (did.CallsAt into first last) plain acted s here =
-        (tt, still at base sp slots frames held byte s here c cell_at new after sp_after (did.CallsAt into first last) below long acted (says at base sp slots frames held byte s here c cell_at new after sp_after (did.CallsAt into first last) below long acted).1)
+        let m = says at base sp slots frames held byte s here c cell_at new after sp_after (did.CallsAt into first last) below long acted in
+        let one = cur at base sp slots frames held byte s here in (
+          record { instr = one.instr; is = one.instr_is; result = m.0.t; callee = m.0.callee; arguments = m.0.given; calls = m.0.is },
+          still at base sp slots frames held byte s here c cell_at new after sp_after (did.CallsAt into first last) below long acted m.1,
+        )
     plain_turned (did.Calls into f first last) plain acted s here = absurd plain
     plain_turned (did.Returns x) plain acted s here = absurd plain
     plain_turned did.Leaves plain acted s here = absurd plain

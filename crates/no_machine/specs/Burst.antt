@@ -72,7 +72,6 @@ told_by (out.WantPage page) = burst.WantPage page
 told_by out.WantInput = burst.WantInput
 told_by out.Grow = burst.Room
 told_by out.NoMemory = burst.NoMemory
-told_by out.Foreign = burst.NoMemory
 
 abbrev pub cost_by : Out → ℕ
 cost_by (out.On at base cost) = cost

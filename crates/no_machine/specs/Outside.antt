@@ -114,7 +114,6 @@ Outs p (out.WantPage page) at base sp slots frames a more s row = IsLowestAbsent
 Outs p out.WantInput at base sp slots frames a more s row = (row.asks ≡ true) × (a.env.input ≡ []) × (a.env.ended ≡ false) × IsCalmly p at base sp slots frames a s
 Outs p out.Grow at base sp slots frames a more s row = IsCalmly p at base sp slots frames a s
 Outs p out.NoMemory at base sp slots frames a more s row = IsCalmly p at base sp slots frames a s
-Outs p out.Foreign at base sp slots frames a more s row = IsCalmly p at base sp slots frames a s
 
 -- ---- a call of the library
 

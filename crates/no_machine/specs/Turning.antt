@@ -2,6 +2,10 @@
 use Rattle.std.specs.Prelude.{ℕ, ◌≡◌, Bool, true, Option, Some, List, [], slice_get}
 use Rattle.no_ir.specs.declared.function.Function.{Function}
 use Rattle.no_ir.specs.declared.function.Module.{Module}
+use Rattle.no_ir.specs.declared.instruction.Instr.{Instr}
+use Rattle.no_ir.specs.declared.instruction.Op.TheVariants as op
+use Rattle.no_ir.specs.declared.instruction.Operand.{Operand}
+use Rattle.no_ir.specs.declared.types.Ty.{Ty}
 use Rattle.no_layout.specs.Memory.{Agrees}
 use Rattle.no_layout.specs.declared.memory.Regions.{Regions}
 use Rattle.no_module.specs.Functions.{is_declared}
@@ -9,7 +13,7 @@ use Rattle.no_semantics.specs.Accepted.{Accepted}
 use Rattle.no_semantics.specs.Acting.{row}
 use Rattle.no_semantics.specs.Rows.{Calling, Goes, Leaves, Stuck, needed, plain, trapping}
 use Rattle.no_semantics.specs.Spans.{AreHeld, IsLowestAbsent}
-use Rattle.no_semantics.specs.States.{HasNoMarks, State}
+use Rattle.no_semantics.specs.States.{HasNoMarks, State, instr_at}
 use Rattle.no_semantics.specs.Steps.{Steps}
 use Rattle.no_semantics.specs.Values.{Program}
 use Rattle.no_semantics.specs.Sound.{is_sound}
@@ -71,6 +75,15 @@ pub record IsStill (p : Program) (at base sp : ℕ) (slots : List ℕ) (frames :
   pub stands : Stands p at base sp slots frames s
   pub bytes : after ≡ byte
 
+-- the next instruction is a call
+pub record IsCalling (p : Program) (s : State) : Type 0 where
+  pub instr : Instr
+  pub is : instr_at p s.frame ≡ Some instr
+  pub result : Ty
+  pub callee : Operand
+  pub arguments : List (Ty × Operand)
+  pub calls : instr.op ≡ op.Call result callee arguments
+
 -- why it did none
 abbrev pub Stopped : Program → Stop → (ℕ → Bool) → State → Type 0
 Stopped p stop.Grow held s = Unit {0}
@@ -78,7 +91,7 @@ Stopped p stop.NoMemory held s = Unit {0}
 Stopped p (stop.Trapped t) held s = row p s ≡ trapping t
 Stopped p (stop.WantPage page) held s = ((row p s).cost ≡ 1) × IsLowestAbsent held (needed (row p s)) page
 Stopped p (stop.Left v) held s = row p s ≡ plain (Leaves v)
-Stopped p stop.Outside held s = Unit {0}
+Stopped p stop.Outside held s = IsCalling p s
 Stopped p stop.Spent held s = ⊥
 
 -- a turn at a state, by its answer

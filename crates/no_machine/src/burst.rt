@@ -5,7 +5,7 @@ ghost use Rattle.no_semantics.specs.States.{State};
 ghost use Rattle.no_machine.specs.Burst.{HasBurst, answer_of, cost_by, cost_of, end_by, told_by, told_of};
 ghost use Rattle.no_machine.specs.Outside.{Outs, Placed};
 ghost use Rattle.no_machine.specs.Ran.{IsAt, IsMade, Stays, budget_of, count_of, end_of, program_of};
-ghost use Rattle.no_machine.specs.Turning.{IsHere};
+ghost use Rattle.no_machine.specs.Turning.{IsCalling, IsHere};
 ghost use Rattle.no_machine.specs.Spun.{HasSpun};
 
 use crate::facts::Facts;
@@ -75,7 +75,6 @@ fn told_by(what: Out) -> Burst
         Out::WantInput => Burst::WantInput,
         Out::Grow => Burst::Room,
         Out::NoMemory => Burst::NoMemory,
-        Out::Foreign => Burst::NoMemory,
     }
 }
 
@@ -150,7 +149,7 @@ impl<M: Memory> Machine<M> {
     fn outside(&mut self, sound: &Sound, left: u64, env: &mut Env) -> Out
         requires made { IsMade sound.now self.old }
         requires some { 0 < left }
-        requires here { (s : State) × IsHere (program_of M.regions sound.now self.old) self.old.core.at self.old.core.base self.old.core.sp self.old.core.slots.items self.old.core.frames.items (M.held self.old.core.mem) (M.byte self.old.core.mem) s }
+        requires here { (s : State) × IsHere (program_of M.regions sound.now self.old) self.old.core.at self.old.core.base self.old.core.sp self.old.core.slots.items self.old.core.frames.items (M.held self.old.core.mem) (M.byte self.old.core.mem) s × IsCalling (program_of M.regions sound.now self.old) s }
         ensures outs { (s : State) → (more : List ℕ) → IsHere (program_of M.regions sound.now self.old) self.old.core.at self.old.core.base self.old.core.sp self.old.core.slots.items self.old.core.frames.items (M.held self.old.core.mem) (M.byte self.old.core.mem) s → s.heap ≡ self.old.core.heap → s.input ≡ env.old.input ++ more → (env.old.ended ≡ true → more ≡ []) → Outs (program_of M.regions sound.now self.old) result self.old.core.at self.old.core.base self.new.core.sp self.new.core.slots.items self.new.core.frames.items (record { held = M.held self.old.core.mem; byte = M.byte self.old.core.mem; after = M.byte self.new.core.mem; heap = self.old.core.heap; heap_after = self.new.core.heap; env = env.old; env_after = env.new }) more s (affordable left (row (program_of M.regions sound.now self.old) s)) }
         ensures placed { Placed result self.old.core.at self.old.core.base self.new.core.at self.new.core.base }
         ensures regions { M.regions self.new.core.mem ≡ M.regions self.old.core.mem }

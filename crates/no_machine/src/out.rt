@@ -16,6 +16,4 @@ pub enum Out {
     /// There are too few slots for a call.
     Grow,
     NoMemory,
-    /// It is an external of a server's part, which this machine doesn't do.
-    Foreign,
 }

@@ -5,7 +5,7 @@ ghost use Rattle.no_semantics.specs.Rows.{affordable};
 ghost use Rattle.no_semantics.specs.States.{State};
 ghost use Rattle.no_taken.specs.Marked.{AreTaken};
 ghost use Rattle.no_machine.specs.Outside.{AreExternals, Outs};
-ghost use Rattle.no_machine.specs.Turning.{AreFacts, IsHere, program_with};
+ghost use Rattle.no_machine.specs.Turning.{AreFacts, IsCalling, IsHere, program_with};
 
 use crate::facts::Facts;
 use crate::frame::Saved;
@@ -48,7 +48,7 @@ pub(crate) fn outside<M: Memory>(
     requires externals { AreExternals facts.sound.now.«module» facts.sound.now.role externals.now }
     requires taken { AreTaken facts.sound.now.«module» taken.now }
     requires some { 0 < left }
-    requires here { (s : State) × IsHere (program_with facts.sound.now facts.addresses.now (M.regions mem.old)) at base sp.old slots.old frames.old.items (M.held mem.old) (M.byte mem.old) s }
+    requires here { (s : State) × IsHere (program_with facts.sound.now facts.addresses.now (M.regions mem.old)) at base sp.old slots.old frames.old.items (M.held mem.old) (M.byte mem.old) s × IsCalling (program_with facts.sound.now facts.addresses.now (M.regions mem.old)) s }
     ensures outs { (s : State) → (more : List ℕ) → IsHere (program_with facts.entry.sound.now facts.entry.addresses.now (M.regions mem.old)) at base sp.old slots.old frames.old.items (M.held mem.old) (M.byte mem.old) s → s.heap ≡ heap.old → s.input ≡ env.old.input ++ more → (env.old.ended ≡ true → more ≡ []) → Outs (program_with facts.entry.sound.now facts.entry.addresses.now (M.regions mem.old)) result at base sp.new slots.new frames.new.items (record { held = M.held mem.old; byte = M.byte mem.old; after = M.byte mem.new; heap = heap.old; heap_after = heap.new; env = env.old; env_after = env.new }) more s (affordable left (row (program_with facts.entry.sound.now facts.entry.addresses.now (M.regions mem.old)) s)) }
     ensures regions { M.regions mem.new ≡ M.regions mem.old }
     ensures held { M.held mem.new ≡ M.held mem.old }
@@ -110,6 +110,6 @@ pub(crate) fn outside<M: Memory>(
                 left,
             )
         }
-        _ => Out::Foreign,
+        _ => unreachable!(),
     }
 }

@@ -4,7 +4,7 @@ ghost use Rattle.no_semantics.specs.Rows.{affordable};
 ghost use Rattle.no_taken.specs.Marked.{AreTaken};
 ghost use Rattle.no_machine.specs.Outside.{AreExternals, Outs, Placed};
 ghost use Rattle.no_semantics.specs.States.{State};
-ghost use Rattle.no_machine.specs.Turning.{AreFacts, IsHere, program_with};
+ghost use Rattle.no_machine.specs.Turning.{AreFacts, IsCalling, IsHere, program_with};
 ghost use Rattle.no_machine.specs.Spun.{HasSpun};
 
 use crate::facts::Facts;
@@ -90,7 +90,7 @@ impl<M: Memory> Core<M> {
         requires externals { AreExternals facts.sound.now.«module» facts.sound.now.role externals.now }
         requires taken { AreTaken facts.sound.now.«module» taken.now }
         requires some { 0 < left }
-        requires here { (s : State) × IsHere (program_with facts.sound.now facts.addresses.now (M.regions self.old.mem)) self.old.at self.old.base self.old.sp self.old.slots.items self.old.frames.items (M.held self.old.mem) (M.byte self.old.mem) s }
+        requires here { (s : State) × IsHere (program_with facts.sound.now facts.addresses.now (M.regions self.old.mem)) self.old.at self.old.base self.old.sp self.old.slots.items self.old.frames.items (M.held self.old.mem) (M.byte self.old.mem) s × IsCalling (program_with facts.sound.now facts.addresses.now (M.regions self.old.mem)) s }
         ensures outs { (s : State) → (more : List ℕ) → IsHere (program_with facts.entry.sound.now facts.entry.addresses.now (M.regions self.old.mem)) self.old.at self.old.base self.old.sp self.old.slots.items self.old.frames.items (M.held self.old.mem) (M.byte self.old.mem) s → s.heap ≡ self.old.heap → s.input ≡ env.old.input ++ more → (env.old.ended ≡ true → more ≡ []) → Outs (program_with facts.entry.sound.now facts.entry.addresses.now (M.regions self.old.mem)) result self.old.at self.old.base self.new.sp self.new.slots.items self.new.frames.items (record { held = M.held self.old.mem; byte = M.byte self.old.mem; after = M.byte self.new.mem; heap = self.old.heap; heap_after = self.new.heap; env = env.old; env_after = env.new }) more s (affordable left (row (program_with facts.entry.sound.now facts.entry.addresses.now (M.regions self.old.mem)) s)) }
         ensures placed { Placed result self.old.at self.old.base self.new.at self.new.base }
         ensures regions { M.regions self.new.mem ≡ M.regions self.old.mem }

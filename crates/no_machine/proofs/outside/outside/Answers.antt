@@ -1,5 +1,5 @@
 use Rattle.std.proofs.Common.{◌<◌, ◌^◌, length, refl, rules, arith}
-use Rattle.no_machine.proofs.Reaches.{by_name, does, first_inside, first_slot, leads_known, needs, next_fits, place_inside, reads_each, trap_outs, traps_known}
+use Rattle.no_machine.proofs.Reaches.{by_name, does, first_inside, first_slot, leads_known, needs, next_fits, no_other, place_inside, reads_each, trap_outs, traps_known}
 use Rattle.no_machine.proofs.Turns.{at_inside}
 use Rattle.no_machine.proofs.outside.outside.Goals as goal
 
@@ -42,3 +42,6 @@ returns-in-Call-clause-outs g c = λ s more h heap input last. does _ _ _ _ _ _ 
 pub returns-in-Some-checked_add-clause-outs : goal.returns-in-Some-checked_add-clause-outs
 returns-in-Some-checked_add-clause-outs g c = λ s more h heap input last.
     does _ _ _ _ _ _ _ _ _ c.requires.facts _ c.requires.externals _ _ _ _ _ _ _ s h _ _ _ _ (leads_known _ _ _ _ _ _ _ _ _ c.requires.facts _ c.requires.externals _ _ _ _ _ _ _ s h _ _ _ c.in-CallAt.ensures _ _ c.slot_at-slot.ensures c.read_at-address.ensures _ c.reached.ensures c.in-Some.k c.in-Ok.f c.in-Some-checked_add.rest c.in-Some.is (search rules) (search rules)) _ _ _ _ refl refl more _ (omega (arith, c.requires.some)) heap input last _ _ _ _ _ c.invoke-in-CallAt.ensures.invoked
+
+pub unreachable-requires : goal.unreachable-requires
+unreachable-requires g c = no_other _ _ _ _ _ _ _ _ _ c.requires.facts _ c.requires.externals _ _ _ _ _ _ _ c.requires.here.0 c.requires.here.1 c.requires.here.2 _ c.cell_at.ensures c.in_default.not-Call c.in_default.not-CallAt
