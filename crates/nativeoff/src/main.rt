@@ -11,7 +11,7 @@ use host_files::HostFiles;
 use no_app::{Outcome, command, status};
 use no_ir::Text;
 use no_ports::{ClosedSpawner, ClosedWire};
-use no_walker::Steps;
+use no_machine::Steps;
 use std::marker::Brand;
 use std::process::ExitCode;
 use std::sync::ledger::{Blank, Ledger};

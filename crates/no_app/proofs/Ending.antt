@@ -17,12 +17,11 @@ use Rattle.no_semantics.proofs.Running.{affords, first_of}
 use Rattle.no_progress.proofs.Steady.{KeepsWithin, LeavesBy, step_steady}
 use Rattle.no_ir.specs.declared.instruction.Instr.{Instr}
 use Rattle.no_semantics.specs.States.{HasNoMarks}
-use Rattle.no_walker.specs.Running.{Stays, budget_of, count_of, state_of}
-use Rattle.no_walker.specs.Running as machine
-use Rattle.no_walker.specs.declared.machine.StepAnswer.TheVariants as answer
+use Rattle.no_machine.specs.Ran.{Stays, budget_of, count_of}
+use Rattle.no_machine.specs.declared.machine.StepAnswer.TheVariants as answer
 use Rattle.no_app.specs.Jobs.{Local, IsFed, is_open, work_left}
 use Rattle.no_app.proofs.Jobs.{So, emptied}
-use Rattle.no_app.proofs.Ways.{RanBy}
+use Rattle.no_app.proofs.Ways.{RanBy, own, plain_run, plain_way, run_steps}
 
 stuck_goes : (bytes : List ℕ) (call : Option Calling) (t : State) → Stuck ≡ Goes bytes call t → ⊥
 stuck_goes bytes call t e = cc
@@ -46,7 +45,7 @@ paid p s t bytes call marks e = by (instr_at p s.frame) refl
         (subst (λ (n : Next). KeepsWithin (row p s).cost s (LeavesBy s i.op) (row p s).cost n) e (subst (λ (r : Row). KeepsWithin (row p s).cost s (LeavesBy s i.op) r.cost r.next) same keeps)).0
 
 -- steps that cost nothing are none
-free_steps : (p : Program) (s t : State) (bytes : List ℕ) (cost : ℕ) → HasNoMarks p.«module» → Steps p s bytes cost t → cost ≡ 0 → t ≡ s
+pub free_steps : (p : Program) (s t : State) (bytes : List ℕ) (cost : ℕ) → HasNoMarks p.«module» → Steps p s bytes cost t → cost ≡ 0 → t ≡ s
 free_steps p s t bytes cost marks steps none = by steps.0 steps.1
   where
     by : (n : ℕ) → after p n s ≡ Some (record { output = bytes; count = cost; state = t }) → t ≡ s
@@ -70,9 +69,8 @@ less b b' c c' cost f f' same counted within some most = omega arith
 pub less_stepped : (a : Accepted) (budget : ℕ) (left left' before now : Option (List ℕ)) (m m' : Local) (env env' : Env) (output : Vec ℕ Global) → So a budget left left' before now m env
     → RanBy a 65536 answer.Stepped m m' env env' → Stays regions_of held_of m m' → count_of m' ≤ budget_of m' → work_left m' (emptied env' output) < work_left m env
 less_stepped a budget left left' before now m m' env env' output so ran stays within =
-    let way = so.under.way [] (λ e. refl) in
-    let run = ran way.whole [] way.agrees (λ e. refl) in
-    less (budget_of m) (budget_of m') (count_of m) (count_of m') run.cost (flag (is_open env)) (flag (is_open (emptied env' output))) stays.budget run.stops.2.counted within
+    let run = plain_run a budget 65536 answer.Stepped m m' env env' so.read so.flushed so.under ran in
+    less (budget_of m) (budget_of m') (count_of m) (count_of m') run.cost (flag (is_open env)) (flag (is_open (emptied env' output))) stays.budget run.stops.2.0 within
     (omega (arith, run.stops.1)) (flag_most (is_open (emptied env' output)))
 
 -- a source goes on where a program needs its input
@@ -84,12 +82,12 @@ pub less_fed : (a : Accepted) (budget limit : ℕ) (left left' left'' before now
     → HasNoMarks a.«module» → RanBy a limit answer.WantInput m m' env env' → Stays regions_of held_of m m' → count_of m' ≤ budget_of m' → IsFed left' left'' (emptied env' output) env''
     → work_left m' env'' < work_left m env
 less_fed a budget limit left left' left'' before now m m' env env' env'' output so marks ran stays within fed =
-    let way = so.under.way [] (λ e. refl) in
-    let run = ran way.whole [] way.agrees (λ e. refl) in
-    let there = run.stops.0 in
+    let way = plain_way a budget so.read so.flushed m env so.under in
+    let run = plain_run a budget limit answer.WantInput m m' env env' so.read so.flushed so.under ran in
+    let there = run.stops.0.0 in
     let wants : run.cost ≡ 0 → flag (is_open env) ≡ 1 = λ none.
-    let same : run.state ≡ state_of m way.whole (env.input ++ []) = free_steps (machine.program_of regions_of a m) _ run.state run.bytes run.cost marks run.steps none in
-    let input : env.input ≡ [] = sym (append-nil env.input) ∙ ap (λ (s : State). s.input) (sym same ∙ there.is) ∙ append-nil env'.input ∙ run.stops.2 in
-    let ended : env.ended ≡ false = sym there.same_end ∙ run.stops.3 in
+    let same : run.state ≡ way.state = free_steps (own a m) way.state run.state run.bytes run.cost marks (run_steps a limit answer.WantInput m m' env env' [] way.state run) none in
+    let input : env.input ≡ [] = sym (append-nil env.input) ∙ sym way.at.rest ∙ ap (λ (s : State). s.input) (sym same) ∙ there.rest ∙ append-nil env'.input ∙ run.stops.2 in
+    let ended : env.ended ≡ false = sym run.same_end ∙ run.stops.3 in
     ap (λ (x : List ℕ). flag (is_empty x && not env.ended)) input ∙ ap (λ (b : Bool). flag (is_empty {A = ℕ} [] && not b)) ended in
-    less_by (budget_of m) (budget_of m') (count_of m) (count_of m') run.cost (flag (is_open env)) (flag (is_open env'')) stays.budget run.stops.4.counted within (ap flag fed.closed) wants
+    less_by (budget_of m) (budget_of m') (count_of m) (count_of m') run.cost (flag (is_open env)) (flag (is_open env'')) stays.budget run.stops.4.0 within (ap flag fed.closed) wants

@@ -12,15 +12,15 @@ use Rattle.no_ir.specs.declared.function.Role.{Role}
 use Rattle.no_ir.specs.declared.function.Role.TheVariants.{Source}
 use Rattle.no_lib.specs.declared.env.Env.{Env}
 use Rattle.no_pages.specs.Table.{held_of, regions_of}
-use Rattle.no_walker.specs.Counted.{Counted, counted}
-use Rattle.no_walker.specs.Running.{HasNoMeaning, IsFor, Stays, budget_of, count_of, end_of, memory_of, state_of}
-use Rattle.no_walker.specs.Running as machine
-use Rattle.no_walker.specs.declared.machine.StepAnswer.{StepAnswer}
-use Rattle.no_walker.specs.declared.machine.StepAnswer.TheVariants as answer
+use Rattle.no_machine.specs.Counted.{Counted, counted}
+use Rattle.no_machine.specs.Ran.{IsMade, Stays, budget_of, count_of, left_of}
+use Rattle.no_machine.specs.declared.machine.StepAnswer.{StepAnswer}
+use Rattle.no_machine.specs.declared.machine.StepAnswer.TheVariants as answer
 use Rattle.no_semantics.specs.Accepted.{Accepted}
 use Rattle.no_semantics.specs.Acting.{step}
 use Rattle.no_semantics.specs.First.{program_of}
-use Rattle.no_semantics.specs.Rows.{Next, Goes, Leaves, Ends, Stuck}
+use Rattle.no_semantics.specs.Starts.{start_of}
+use Rattle.no_semantics.specs.Rows.{HasNoMeaning, Next, Goes, Leaves, Ends, Stuck}
 use Rattle.no_semantics.specs.Runs as runs
 use Rattle.no_semantics.specs.Runs.{Finish, Returned, Ended, Ran, IsRun, Runs, Whole, finished, ran_by, ran_of, resumed, within, whole_by}
 use Rattle.no_semantics.specs.States.{State}
@@ -31,7 +31,7 @@ use Rattle.no_app.specs.Jobs.{Local, AreBytes, TellsBytes, IsAtStart, IsRunnable
 use Rattle.no_app.specs.declared.job.JobEnd.{JobEnd}
 use Rattle.no_app.specs.declared.job.JobEnd.TheVariants as job
 use Rattle.no_app.specs.declared.report.Report.{Report}
-use Rattle.no_app.proofs.Ways.{IsOnWay, IsUnder, RanBy, MayGoOn, own_steps, same_bytes, plain_went, under_on, under_start}
+use Rattle.no_app.proofs.Ways.{IsOnWay, IsUnder, RanBy, MayGoOn, in_env, own, own_steps, plain_run, plain_way, plain_went, run_steps, same_bytes, under_on, under_start}
 
 -- what is read of a source so far, where it tells what it has left
 abbrev pub HasRead : Option (List ℕ) → Option (List ℕ) → Bool → List ℕ → Type 0
@@ -67,13 +67,13 @@ so_start a budget left held m env start no_input no_output open_end = record {
 
 pub so_run : (a : Accepted) (budget limit : ℕ) (left left' before now : Option (List ℕ)) (told : StepAnswer) (m m' : Local) (env env' : Env)
     → So a budget left left' before now m env → MayGoOn told → RanBy a limit told m m' env env'
-    → Stays regions_of held_of m m' → count_of m' ≤ budget_of m' → IsFor a m' → So a budget left left' before now m' env'
+    → Stays regions_of held_of m m' → count_of m' ≤ budget_of m' → IsMade a m' → So a budget left left' before now m' env'
 so_run a budget limit left left' before now told m m' env env' so may ran stays within made =
-    let w = plain_went a budget limit told m m' env env' so.read so.flushed so.under may ran in
+    let same_end = (plain_run a budget limit told m m' env env' so.read so.flushed so.under ran).same_end in
     record {
       read = so.read;
       are_bytes = so.are_bytes;
-      reads = subst (λ (e : Bool). HasRead left left' e so.read) (sym w.0.same_end) so.reads;
+      reads = subst (λ (e : Bool). HasRead left left' e so.read) (sym same_end) so.reads;
       flushed = so.flushed;
       under = under_on a budget limit told m m' env env' so.read so.flushed so.under may ran stays within made;
       wrote = so.wrote;
@@ -91,7 +91,17 @@ so_flush a budget left left' before now after m env output so none given = recor
   reads = so.reads;
   flushed = so.flushed ++ env.output.items;
   under = record {
-    way = λ more closed. subst (IsOnWay a m (so.read ++ more) (env.input ++ more)) (sym (ap (λ (x : List ℕ). (so.flushed ++ env.output.items) ++ x) none ∙ append-nil (so.flushed ++ env.output.items))) (so.under.way more closed);
+    way = λ more are closed.
+        let way = so.under.way more are closed in
+        record {
+          begin = way.begin;
+          begins = way.begins;
+          state = way.state;
+          at = in_env (own a m) m env (emptied env output) more more way.state way.at refl closed;
+          steps = subst (λ (x : List ℕ). Steps (program_of a) way.begin x (count_of m) way.state)
+              (sym (ap (λ (x : List ℕ). (so.flushed ++ env.output.items) ++ x) none ∙ append-nil (so.flushed ++ env.output.items)))
+              way.steps;
+        };
     stands = so.under.stands;
   };
   wrote = adds_then before now after so.flushed env.output.items so.wrote given;
@@ -108,6 +118,10 @@ pub each_append : (xs ys : List ℕ) → AreBytes xs → AreBytes ys → AreByte
 each_append [] ys p q = q
 each_append (x ∷ xs) ys p q = (p.0, each_append xs ys p.1 q)
 
+each_behind : (xs ys : List ℕ) → AreBytes (xs ++ ys) → AreBytes ys
+each_behind [] ys p = p
+each_behind (x ∷ xs) ys p = each_behind xs ys p.1
+
 pub so_fed : (a : Accepted) (budget : ℕ) (left left' left'' before now : Option (List ℕ)) (m : Local) (env env' : Env)
     → So a budget left left' before now m env → env.ended ≡ false → IsFed left' left'' env env' → So a budget left left'' before now m env'
 so_fed a budget left left' left'' before now m env env' so open_end fed = record {
@@ -116,11 +130,15 @@ so_fed a budget left left' left'' before now m env env' so open_end fed = record
   reads = has_read_more left left' left'' env.ended env'.ended so.read fed.bytes so.reads fed.moved;
   flushed = so.flushed;
   under = record {
-    way = λ more closed.
-        subst (λ (given : List ℕ). IsOnWay a m given (env'.input ++ more) (so.flushed ++ env'.output.items)) (sym (append_assoc so.read fed.bytes more))
-        (subst (λ (x : List ℕ). IsOnWay a m (so.read ++ (fed.bytes ++ more)) x (so.flushed ++ env'.output.items)) (sym (ap (λ (x : List ℕ). x ++ more) fed.input ∙ append_assoc env.input fed.bytes more))
-        (subst (λ (x : List ℕ). IsOnWay a m (so.read ++ (fed.bytes ++ more)) (env.input ++ (fed.bytes ++ more)) (so.flushed ++ x)) (sym fed.output)
-        (so.under.way (fed.bytes ++ more) (λ e. absurd (true≢false (sym e ∙ open_end))))));
+    way = λ more are closed.
+        let way = so.under.way (fed.bytes ++ more) (each_append fed.bytes more fed.are_bytes are) (λ e. absurd (true≢false (sym e ∙ open_end))) in
+        record {
+          begin = way.begin;
+          begins = subst (λ (given : List ℕ). start_of a given ≡ Some way.begin) (sym (append_assoc so.read fed.bytes more)) way.begins;
+          state = way.state;
+          at = in_env (own a m) m env env' (fed.bytes ++ more) more way.state way.at (sym (ap (λ (x : List ℕ). x ++ more) fed.input ∙ append_assoc env.input fed.bytes more)) closed;
+          steps = subst (λ (x : List ℕ). Steps (program_of a) way.begin (so.flushed ++ x) (count_of m) way.state) (sym fed.output) way.steps;
+        };
     stands = so.under.stands;
   };
   wrote = so.wrote;
@@ -129,13 +147,13 @@ so_fed a budget left left' left'' before now m env env' so open_end fed = record
 -- ---- some input
 
 pub on_input : (left left' : Option (List ℕ)) (ended : Bool) (read : List ℕ) (P : List ℕ → Type 0) → TellsBytes left → AreBytes read → HasRead left left' ended read
-    → ((more : List ℕ) → (ended ≡ true → more ≡ []) → AreBytes (read ++ more) → P (read ++ more)) → OnInput left P
+    → ((more : List ℕ) → AreBytes more → (ended ≡ true → more ≡ []) → P (read ++ more)) → OnInput left P
 on_input None left' ended read P tells are reads holds =
     let all = subst AreBytes (sym (append-nil read)) are in
-    record { given = read ++ []; are_bytes = all; is = tt; so = holds [] (λ e. refl) all }
+    record { given = read ++ []; are_bytes = all; is = tt; so = holds [] tt (λ e. refl) }
 on_input (Some l) left' ended read P tells are reads holds =
     let all = subst AreBytes reads.1 tells in
-    record { given = read ++ reads.0; are_bytes = all; is = sym reads.1; so = holds reads.0 reads.3 all }
+    record { given = read ++ reads.0; are_bytes = all; is = sym reads.1; so = holds reads.0 (each_behind read reads.0 all) reads.3 }
 
 -- where nothing is known yet
 pub any_input : (left : Option (List ℕ)) (P : List ℕ → Type 0) → TellsBytes left → ((given : List ℕ) → AreBytes given → P given) → OnInput left P
@@ -149,11 +167,11 @@ pub record IsPart (bytes : List ℕ) (count : ℕ) (ran : Ran) : Type 0 where
   pub output : ran.output ≡ bytes ++ rest.output
   pub counted : ran.count ≡ count + rest.count
 
-pub run_part : (a : Accepted) (budget : ℕ) (m : Local) (given left bytes : List ℕ) (ran : Ran) → IsOnWay a m given left bytes → count_of m ≤ budget → IsRun a given budget ran
+pub run_part : (a : Accepted) (budget : ℕ) (m : Local) (env : Env) (more given bytes : List ℕ) (ran : Ran) → IsOnWay a m env more given bytes → count_of m ≤ budget → IsRun a given budget ran
     → IsPart bytes (count_of m) ran
-run_part a budget m given left bytes ran way le run =
+run_part a budget m env more given bytes ran way le run =
     let begin_is : run.begin ≡ way.begin = same_Some run.begin way.begin (sym run.begins ∙ way.begins) in
-    let split = runs_split (program_of a) budget way.begin (state_of m way.whole left) bytes (count_of m) run.whole way.steps le
+    let split = runs_split (program_of a) budget way.begin way.state bytes (count_of m) run.whole way.steps le
     (subst (λ (s : State). Runs (program_of a) budget s run.whole) begin_is run.runs) in
     let whole = mapped (ran_by run.whole.output run.whole.count) (runs.end_of run.whole.finish) ran run.is in
     record {
@@ -200,9 +218,9 @@ pub so_short : (a : Accepted) (budget : ℕ) (left left' before now after : Opti
     → So a budget left left' before now m env → IsRunnable a → TellsBytes left → IsShort end → AddsPrefix now after env.output.items → HasCounted s s' m
     → OnInput left (λ given. OnRun a given budget (RanSo end before after s s'))
 so_short a budget left left' before now after m env end s s' so runnable tells short given counts =
-    on_input left left' env.ended so.read (λ given. OnRun a given budget (RanSo end before after s s')) tells so.are_bytes so.reads (λ more closed are.
-    let run = runnable.runs (so.read ++ more) are budget in
-    let part = run_part a budget m (so.read ++ more) (env.input ++ more) (so.flushed ++ env.output.items) run.0 (so.under.way more closed) (rw (sym so.under.stands.limit) so.under.stands.within) run.1 in
+    on_input left left' env.ended so.read (λ given. OnRun a given budget (RanSo end before after s s')) tells so.are_bytes so.reads (λ more are closed.
+    let run = runnable.runs (so.read ++ more) (each_append so.read more so.are_bytes are) budget in
+    let part = run_part a budget m env more (so.read ++ more) (so.flushed ++ env.output.items) run.0 (so.under.way more are closed) (rw (sym so.under.stands.limit) so.under.stands.within) run.1 in
     record {
       ran = run.0;
       runs = run.1;
@@ -226,17 +244,17 @@ same_ran : (o u : List ℕ) (c d : ℕ) (e : End) → o ≡ u → c ≡ d → ra
 same_ran o u c d e p q = ap (λ (x : List ℕ). ran_by x c e) p ∙ ap (λ (x : ℕ). ran_by u x e) q
 
 over : (a : Accepted) (budget limit : ℕ) (e : End) (m m' : Local) (env env' : Env) (read flushed more : List ℕ) → IsUnder a budget read flushed m env → RanBy a limit (answer.Ended e) m m' env env'
-    → (env.ended ≡ true → more ≡ []) → IsRun a (read ++ more) budget (ran_by (flushed ++ env'.output.items) (count_of m') e)
-over a budget limit e m m' env env' read flushed more under ran closed =
-    let way = under.way more closed in
-    let run = ran way.whole more way.agrees closed in
-    let there = run.stops.0 in
+    → AreBytes more → (env.ended ≡ true → more ≡ []) → IsRun a (read ++ more) budget (ran_by (flushed ++ env'.output.items) (count_of m') e)
+over a budget limit e m m' env env' read flushed more under ran are closed =
+    let way = under.way more are closed in
+    let run = ran more way.state way.at in
+    let wrote = run.stops.0.1 in
     let end = run.stops.1 in
-    let p : Program = machine.program_of regions_of a m in
-    let cost : ℕ = (step p (budget_of m - count_of m - run.cost) run.state).cost in
+    let p : Program = own a m in
+    let cost : ℕ = (step p (left_of m - run.cost) run.state).cost in
     let last : Whole = record { output = run.bytes; count = run.cost + cost; finish = end.finish; state = run.state } in
-    let left_is : budget_of m - count_of m ≡ budget - count_of m = ap (λ (n : ℕ). n - count_of m) under.stands.limit in
-    let s : State = state_of m way.whole (env.input ++ more) in
+    let left_is : left_of m ≡ budget - count_of m = ap (λ (n : ℕ). n - count_of m) under.stands.limit in
+    let s : State = way.state in
     let rest : Runs (program_of a) (budget - count_of m) s last =
     subst (λ (q : Program). Runs q (budget - count_of m) s last) under.stands.same_program (subst (λ (n : ℕ). Runs p n s last) left_is end.runs) in
     record {
@@ -246,16 +264,16 @@ over a budget limit e m m' env env' read flushed more under ran closed =
       runs = runs_resume (program_of a) budget way.begin s (flushed ++ env.output.items) (count_of m) last way.steps (rw (sym under.stands.limit) under.stands.within) rest;
       is = ap (option_map (ran_by ((flushed ++ env.output.items) ++ run.bytes) (count_of m + (run.cost + cost)))) end.ends
           ∙ ap Some (same_ran ((flushed ++ env.output.items) ++ run.bytes) (flushed ++ env'.output.items) (count_of m + (run.cost + cost)) (count_of m') e
-          (same_bytes flushed env.output.items run.bytes env'.output.items there.wrote) (sym end.counted));
+          (same_bytes flushed env.output.items run.bytes env'.output.items wrote) (sym end.counted));
     }
 
 pub so_ended : (a : Accepted) (budget limit : ℕ) (left left' before now after : Option (List ℕ)) (e : End) (report : Report) (m m' : Local) (env env' : Env) (s s' : Counted)
     → So a budget left left' before now m env → TellsBytes left → RanBy a limit (answer.Ended e) m m' env env' → Adds now after env'.output.items
     → report ≡ report_alone (count_of m') → HasCounted s s' m' → OnInput left (λ given. OnRun a given budget (RanSo (job.Ended e report) before after s s'))
 so_ended a budget limit left left' before now after e report m m' env env' s s' so tells ran given told counts =
-    on_input left left' env.ended so.read (λ given. OnRun a given budget (RanSo (job.Ended e report) before after s s')) tells so.are_bytes so.reads (λ more closed are. record {
+    on_input left left' env.ended so.read (λ given. OnRun a given budget (RanSo (job.Ended e report) before after s s')) tells so.are_bytes so.reads (λ more are closed. record {
       ran = ran_by (so.flushed ++ env'.output.items) (count_of m') e;
-      runs = over a budget limit e m m' env env' so.read so.flushed more so.under ran closed;
+      runs = over a budget limit e m m' env env' so.read so.flushed more so.under ran are closed;
       so = record { is = (refl, told, adds_then before now after so.flushed env'.output.items so.wrote given); counts = counts };
     })
 
@@ -283,14 +301,14 @@ no_answer w ran finish is = none-some ran (sym (ap (λ (f : Finish). option_map 
 pub so_never_stuck : (a : Accepted) (budget limit : ℕ) (left left' before now : Option (List ℕ)) (m m' : Local) (env env' : Env)
     → So a budget left left' before now m env → IsRunnable a → RanBy a limit answer.Stuck m m' env env' → ⊥
 so_never_stuck a budget limit left left' before now m m' env env' so runnable ran =
-    let way = so.under.way [] (λ e. refl) in
-    let run = ran way.whole [] way.agrees (λ e. refl) in
+    let way = plain_way a budget so.read so.flushed m env so.under in
+    let run = ran [] way.state way.at in
     let whole = runnable.runs (so.read ++ []) (subst AreBytes (sym (append-nil so.read)) so.are_bytes) budget in
-    let p : Program = machine.program_of regions_of a m in
+    let p : Program = own a m in
     let le : count_of m + run.cost ≤ budget = omega (arith, run.afforded, so.under.stands.limit, so.under.stands.within) in
-    let left_is : budget_of m - count_of m - run.cost ≡ budget - (count_of m + run.cost) = omega (arith, so.under.stands.limit) in
-    let steps = steps_compose (program_of a) way.begin (state_of m way.whole (env.input ++ [])) run.state (so.flushed ++ env.output.items) run.bytes (count_of m) run.cost way.steps
-    (own_steps a m (state_of m way.whole (env.input ++ [])) run.state run.bytes run.cost so.under.stands.same_program run.steps) in
+    let left_is : left_of m - run.cost ≡ budget - (count_of m + run.cost) = omega (arith, so.under.stands.limit) in
+    let steps = steps_compose (program_of a) way.begin way.state run.state (so.flushed ++ env.output.items) run.bytes (count_of m) run.cost way.steps
+    (own_steps a m way.state run.state run.bytes run.cost so.under.stands.same_program (run_steps a limit answer.Stuck m m' env env' [] way.state run)) in
     let begin_is : whole.1.begin ≡ way.begin = same_Some whole.1.begin way.begin (sym whole.1.begins ∙ way.begins) in
     let none : HasNoMeaning (step (program_of a) (budget - (count_of m + run.cost)) run.state).next =
     subst (λ (q : Program). HasNoMeaning (step q (budget - (count_of m + run.cost)) run.state).next) so.under.stands.same_program
@@ -307,13 +325,12 @@ pub run_later : (a : Accepted) (budget limit : ℕ) (told : StepAnswer) (m m' : 
     → RanBy a limit told m m' env env' → count_of m ≤ count_of m'
 run_later a budget limit told m m' env env' read flushed under may ran =
     let w = plain_went a budget limit told m m' env env' read flushed under may ran in
-    rw w.1.counted (omega arith)
+    rw w.1.0 (omega arith)
 
 pub end_later : (a : Accepted) (budget limit : ℕ) (e : End) (m m' : Local) (env env' : Env) (read flushed : List ℕ) → IsUnder a budget read flushed m env
     → RanBy a limit (answer.Ended e) m m' env env' → count_of m ≤ count_of m'
 end_later a budget limit e m m' env env' read flushed under ran =
-    let way = under.way [] (λ e. refl) in
-    let run = ran way.whole [] way.agrees (λ e. refl) in
+    let run = plain_run a budget limit (answer.Ended e) m m' env env' read flushed under ran in
     rw run.stops.1.counted (omega arith)
 
 pub rose_later : (a b c : ℕ) → a ≤ b → Rose b c → Rose a c
@@ -333,7 +350,7 @@ counts_start s m none = ap (λ (k : ℕ). record { source = k; part = s.part }) 
 -- ---- the output fails after a slice, however that stopped
 
 pub so_cut : (a : Accepted) (budget limit : ℕ) (left left' before now after : Option (List ℕ)) (told : StepAnswer) (m m' : Local) (env env' : Env) (end : JobEnd) (s s' s'' : Counted)
-    → So a budget left left' before now m env → IsRunnable a → TellsBytes left → RanBy a limit told m m' env env' → Stays regions_of held_of m m' → count_of m' ≤ budget_of m' → IsFor a m'
+    → So a budget left left' before now m env → IsRunnable a → TellsBytes left → RanBy a limit told m m' env env' → Stays regions_of held_of m m' → count_of m' ≤ budget_of m' → IsMade a m'
     → IsShort end → AddsPrefix now after env'.output.items → HasCounted s s' m → s'' ≡ counted a.role (count_of m' - count_of m) s'
     → OnInput left (λ given. OnRun a given budget (RanSo end before after s s''))
 so_cut a budget limit left left' before now after told m m' env env' end s s' s'' so runnable tells ran stays within made short given counts counts' = by told ran
@@ -346,9 +363,9 @@ so_cut a budget limit left left' before now after told m m' env env' end s s' s'
     ends : (e : End) → RanBy a limit (answer.Ended e) m m' env env' → OnInput left (λ given. OnRun a given budget (RanSo end before after s s''))
     ends e r =
         let all = counts_more a.role s s' s'' m m' runnable.role (end_later a budget limit e m m' env env' so.read so.flushed so.under r) counts counts' in
-        on_input left left' env.ended so.read (λ given. OnRun a given budget (RanSo end before after s s'')) tells so.are_bytes so.reads (λ more closed are. record {
+        on_input left left' env.ended so.read (λ given. OnRun a given budget (RanSo end before after s s'')) tells so.are_bytes so.reads (λ more are closed. record {
           ran = ran_by (so.flushed ++ env'.output.items) (count_of m') e;
-          runs = over a budget limit e m m' env env' so.read so.flushed more so.under r closed;
+          runs = over a budget limit e m m' env env' so.read so.flushed more so.under r are closed;
           so = short_so end before after s s'' (ran_by (so.flushed ++ env'.output.items) (count_of m') e) short
               (subst (λ (o : List ℕ). AddsPrefix before after o) (append-nil (so.flushed ++ env'.output.items)) (adds_part before now after so.flushed env'.output.items [] so.wrote given))
               (ap (λ (c : Counted). c.part) all)
@@ -381,5 +398,4 @@ goes_on_twice (Some l) left' left'' a b =
 pub want_open : (a : Accepted) (budget limit : ℕ) (left left' before now : Option (List ℕ)) (m m' : Local) (env env' : Env) → So a budget left left' before now m env
     → RanBy a limit answer.WantInput m m' env env' → env'.ended ≡ false
 want_open a budget limit left left' before now m m' env env' so ran =
-    let way = so.under.way [] (λ e. refl) in
-    (ran way.whole [] way.agrees (λ e. refl)).stops.3
+    (plain_run a budget limit answer.WantInput m m' env env' so.read so.flushed so.under ran).stops.3

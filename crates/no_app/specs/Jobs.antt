@@ -2,18 +2,19 @@
 use Rattle.std.specs.Prelude.{◌≡◌, ℕ, ◌+◌, ◌*◌, ◌-◌, ◌<◌, ◌≤◌, Bool, true, false, not, ◌&&◌, if◌then◌else◌, List, [], ◌++◌, Option, Some, None, IfSome}
 use Rattle.no_ports.specs.Meanings.{Adds, AddsPrefix}
 use Rattle.no_lib.specs.declared.env.Env.{Env}
-use Rattle.no_layout.specs.Memory.{Agrees, AreFormed}
+use Rattle.no_layout.specs.Memory.{AreFormed}
 use Rattle.no_pages.specs.Table.{byte_of, held_of, regions_of}
 use Rattle.no_pages.specs.declared.table.PageTable.{PageTable}
-use Rattle.no_walker.specs.Counted.{Counted}
-use Rattle.no_walker.specs.Running.{count_of, budget_of}
-use Rattle.no_walker.specs.declared.machine.Machine.{Machine}
+use Rattle.no_machine.specs.Counted.{Counted}
+use Rattle.no_machine.specs.Ran.{IsAt, IsMade, budget_of, count_of}
+use Rattle.no_machine.specs.Turning.{NeverStuck}
+use Rattle.no_machine.specs.declared.machine.Machine.{Machine}
 use Rattle.no_ir.specs.declared.function.Role.TheVariants.{Source}
 use Rattle.no_progress.specs.Proper.{Each}
-use Rattle.no_semantics.specs.First.{program_of, first_byte}
+use Rattle.no_semantics.specs.First.{program_of}
 use Rattle.no_semantics.specs.Starts.{main_from, start_of}
-use Rattle.no_walker.specs.Running as machine
-use Rattle.no_semantics.specs.States.{HasNoMarks}
+use Rattle.no_machine.specs.Ran as machine
+use Rattle.no_semantics.specs.States.{HasNoMarks, State}
 use Rattle.no_semantics.specs.Accepted.{Accepted}
 use Rattle.no_semantics.specs.Lists.{is_empty}
 use Rattle.no_semantics.specs.Runs.{Ran, IsRun}
@@ -45,12 +46,13 @@ pub record OnRun (a : Accepted) (given : List ℕ) (budget : ℕ) (P : Ran → T
   pub runs : IsRun a given budget ran
   pub so : P ran
 
--- A source module that runs: it has a main, no instruction of it is free, and on each input it has a run within each budget.
+-- A source module that runs: it has a main, no instruction of it is free, and on each input it has a run within each budget, and never gets stuck.
 pub record IsRunnable (a : Accepted) : Type 0 where
   pub role : a.role ≡ Source
   pub main : (k : ℕ) × (main_from 0 a.«module».functions ≡ Some k)
   pub marks : HasNoMarks a.«module»
   pub runs : (given : List ℕ) → AreBytes given → (budget : ℕ) → (ran : Ran) × IsRun a given budget ran
+  pub never : (given : List ℕ) → AreBytes given → (s : State) → start_of a given ≡ Some s → NeverStuck (program_of a) s
 
 -- a source goes on in its order: where it tells what is left, some first bytes of that may be gone
 abbrev pub GoesOn : Option (List ℕ) → Option (List ℕ) → Type 0
@@ -102,12 +104,17 @@ pub record HasPages (m : Local) : Type 0 where
   pub formed : AreFormed (regions_of (machine.memory_of m))
   pub held : (page : ℕ) → page < 131328 → held_of (machine.memory_of m) page ≡ true
 
+-- it stands where the run on an input begins, of which an environment may have any first bytes
+pub record BeginsOn (a : Accepted) (m : Local) (given : List ℕ) : Type 0 where
+  pub begin : State
+  pub begins : start_of a given ≡ Some begin
+  pub at : (env : Env) (more : List ℕ) → given ≡ env.input ++ more → (env.ended ≡ true → more ≡ []) → IsAt byte_of held_of (machine.program_of regions_of a m) m env more begin
+
 -- at the beginning of its run on every input
 pub record IsAtStart (a : Accepted) (budget : ℕ) (m : Local) : Type 0 where
-  pub starts : (given : List ℕ) → start_of a given ≡ Some (machine.state_of m (first_byte a) given)
-  pub agrees : Agrees (held_of (machine.memory_of m)) (byte_of (machine.memory_of m)) (first_byte a)
+  pub starts : (given : List ℕ) → AreBytes given → BeginsOn a m given
   pub same_program : machine.program_of regions_of a m ≡ program_of a
-  pub made : machine.IsFor a m
+  pub made : IsMade a m
   pub uncounted : count_of m ≡ 0
   pub limit : budget_of m ≡ budget
   pub goes_on : machine.end_of m ≡ None

@@ -6,7 +6,7 @@ use Rattle.no_ir.specs.declared.ending.End.TheVariants as end
 use Rattle.no_ir.specs.Ending.{trap_number, trap_name}
 use Rattle.no_layout.specs.declared.fault.LayoutKind.{LayoutKind}
 use Rattle.no_layout.specs.declared.fault.LayoutKind.TheVariants as layout
-use Rattle.no_walker.specs.Counted.{Counted}
+use Rattle.no_machine.specs.Counted.{Counted}
 use Rattle.no_semantics.specs.Accepted.{Accepted}
 use Rattle.no_semantics.specs.Runs.{Ran}
 use Rattle.no_app.specs.Jobs.{OnInput, OnRun}

@@ -11,7 +11,7 @@ use no_lib::{Env, Input};
 use no_pages::PageTable;
 use no_ports::{GaveAll, Sink, Source, Took, give_all};
 use no_semantics::Sound;
-use no_walker::{Machine, StepAnswer, Steps};
+use no_machine::{Machine, StepAnswer, Steps};
 use std::alloc::Global;
 use std::sync::ledger::Ledger;
 

@@ -10,6 +10,7 @@ mod top;
 mod words;
 
 pub use job::{JobEnd, local_job};
+pub use loading::{Refused, load};
 pub use outcome::{ModuleFault, Outcome, status};
 pub use report::Report;
 pub use top::command;

@@ -20,7 +20,7 @@ pub(crate) const TEXT_LIMIT: u32 = 16_777_216;
 
 /// Why a text gives no program.
 #[derive(Debug, Drop)]
-pub(crate) enum Refused {
+pub enum Refused {
     NoMemory,
     Bad(ModuleFault),
 }
@@ -95,7 +95,7 @@ fn read(alloc: Global, text: &[u8], tokens: &[Token]) -> Result<Sound, Refused>
 
 /// The program that a text means, or the first fault.
 #[tactic(auto, using(crate::proofs::Meanings::text_loads, crate::proofs::Meanings::text_means, crate::proofs::Meanings::unlexed_loads, crate::proofs::Meanings::unlexed_only))]
-pub(crate) fn load(alloc: Global, text: &[u8]) -> Result<Sound, Refused>
+pub fn load(alloc: Global, text: &[u8]) -> Result<Sound, Refused>
     // What is loaded is what the text means, and it means one thing at most.
     ensures loads { Loads result (Means text.now) }
     ensures only { (answer : Result Accepted ModuleFault) → Means text.now answer → Loads result (λ found. found ≡ answer) }

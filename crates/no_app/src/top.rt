@@ -10,7 +10,7 @@ use crate::telling::tell;
 use crate::words::read_words;
 use no_ir::{Bytes, End, Text};
 use no_ports::{FileAnswer, Files, Sink, Source, Spawner, Wire};
-use no_walker::Steps;
+use no_machine::Steps;
 use std::alloc::Global;
 use std::convert::AsStr;
 use std::sync::ledger::Ledger;

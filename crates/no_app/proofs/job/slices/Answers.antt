@@ -1,10 +1,10 @@
 use Rattle.std.proofs.Common.{◌∙◌, refl, ap, arith}
-use Rattle.no_walker.specs.declared.machine.StepAnswer.TheVariants as answer
+use Rattle.no_machine.specs.declared.machine.StepAnswer.TheVariants as answer
 use Rattle.no_app.specs.Jobs.{report_alone}
 use Rattle.no_app.specs.declared.job.JobEnd.TheVariants as job
 use Rattle.no_app.proofs.Ending.{less_fed, less_stepped}
 use Rattle.no_app.proofs.Jobs.{adds_none, counts_more, emptied, counts_start, end_later, goes_on_twice, no_job, read_on, run_later, so_cut, so_ended, so_fed, so_flush, so_never_stuck, so_run, so_short, so_start, want_open}
-use Rattle.no_app.proofs.Ways.{none_wanted}
+use Rattle.no_app.proofs.Ways.{may_run, none_wanted}
 use Rattle.no_app.proofs.job.slices.Goals as goal
 
 pub returns-in_default-clause-run : goal.returns-in_default-clause-run
@@ -18,6 +18,11 @@ slices-init g c = record {
   later = omega arith;
   counts = counts_start c.args.steps.now c.in-Ok.machine c.in-Ok.ensures.uncounted;
 }
+
+pub run-answer-requires-clause-at : goal.run-answer-requires-clause-at
+run-answer-requires-clause-at g c =
+    let so = c.slices.invariant.so in
+    λ going. may_run c.args.sound c.args.budget so.read so.flushed c.slices.machine c.slices.env so.under
 
 pub returns-in-Failed-clause-run : goal.returns-in-Failed-clause-run
 returns-in-Failed-clause-run g c =
