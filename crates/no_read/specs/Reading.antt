@@ -9,7 +9,7 @@ use Rattle.no_lex.specs.declared.token.Token.{Token}
 use Rattle.no_read_rules.specs.declared.fault.Stopped.{Stopped}
 use Rattle.no_read_types.specs.Lifted.{Lifts}
 use Rattle.no_read_types.specs.declared.lifted.Lifted.{Lifted}
-use Rattle.no_read_modules.specs.Modules.{IsModuleOf, forms_read}
+use Rattle.no_read_toplevel.specs.Modules.{IsModuleOf, forms_read}
 use Rattle.no_read.specs.Faults.{read_fault}
 use Rattle.no_read.specs.Knowing.{known_of, meaning_of, IsRefused}
 use Rattle.no_read.specs.declared.fault.ReadFault.{ReadFault}

@@ -14,8 +14,8 @@ use crate::typed::with_types;
 use crate::{Known, ReadError};
 use no_ir::{Module, Role};
 use no_lex::Token;
-use no_read_modules::{a_module, modules_are_exact};
 use no_read_rules::Stop;
+use no_read_toplevel::{a_module, modules_are_exact};
 use std::alloc::Global;
 
 /// The module of the forms, where it is known what names mean.

@@ -14,6 +14,10 @@ pub avoids_less : (g h : Token → Bool) → ((t : Token) → h t ≡ false → 
 avoids_less g h less [] out = refl
 avoids_less g h less (t ∷ ts) out = less t out
 
+-- what takes no token leaves what follows as it is
+pub done_apart : {S A : Type 0} (av : Token → Bool) (a : A) (s t : S) (used rest : List Token) (b : A) → (done a).means s used b t → Avoids av rest → Avoids av (used ++ rest)
+done_apart av a s t used rest b m out = subst (λ (l : List Token). Avoids av (l ++ rest)) (sym m.0) out
+
 module _ {S A : Type 0} where
   pub ends_done : (g : A → Token → Bool) (a : A) → ((t : Token) → g a t ≡ false) → Ends {S = S} g (done a)
   ends_done g a never = record {

@@ -3,6 +3,7 @@
 
 mod attribute;
 mod marks;
+mod symbols;
 mod words;
 
 pub use attribute::{
@@ -10,4 +11,5 @@ pub use attribute::{
     skip_bracketed, skipped_attributes_are_exact, string,
 };
 pub use marks::{Mark, attribute_marks};
+pub use symbols::symbol_name;
 pub use words::{is_attribute_word, is_left_out, is_node, is_record};

@@ -26,18 +26,20 @@ use Rattle.no_read_attributes.specs.Attributes.{alignment_of, string_of, skip_at
 use Rattle.no_read_attributes.specs.Ending.{more_where}
 use Rattle.no_read_registers.specs.declared.locals.Locals.{Locals}
 use Rattle.no_read_registers.specs.Numbered.{no_locals_yet, a_definition, no_name, a_block_label, no_block_label}
-use Rattle.no_read_globals.specs.Globals.{symbol_name, is_idle, constant_of, metadata_of, tail_head, after_tail_head, a_tail, is_comma, more_tail, latest, last_of, tails, a_global}
-use Rattle.no_read_globals.specs.declared.globals.TailHead.{TailHead}
-use Rattle.no_read_globals.specs.declared.globals.TailHead.TheVariants.{Align, Section, Attachment}
-use Rattle.no_read_heads.specs.Heads.{any_name, or_no_name, own_name, place_name, param_name, a_param, params, result_type, words_type, head_marks, a_head}
-use Rattle.no_read_heads.specs.declared.heads.Head.{Head}
-use Rattle.no_read_blocks.specs.Blocks.{is_close, is_label, blocks_of, closing, label_piece, instr_piece, labelled, unlabelled, a_piece, entry, body}
-use Rattle.no_read_blocks.specs.declared.blocks.Piece.{Piece}
-use Rattle.no_read_blocks.specs.declared.blocks.Piece.TheVariants as piece
+use Rattle.no_read_toplevel.specs.Globals.{is_idle, constant_of, metadata_of, tail_head, after_tail_head, a_tail, is_comma, more_tail, latest, last_of, tails, a_global}
+use Rattle.no_read_attributes.specs.Symbols.{symbol_name}
+use Rattle.no_read_toplevel.specs.declared.globals.TailHead.{TailHead}
+use Rattle.no_read_toplevel.specs.declared.globals.TailHead.TheVariants.{Align, Section, Attachment}
+use Rattle.no_read_functions.specs.Heads.{any_name, or_no_name, own_name, place_name, param_name, a_param, params, result_type, words_type, head_marks, a_head}
+use Rattle.no_read_functions.specs.declared.heads.Head.{Head}
+use Rattle.no_read_functions.specs.Blocks.{is_close, is_label, blocks_of, closing, label_piece, instr_piece, labelled, unlabelled, a_piece, entry, body}
+use Rattle.no_read_functions.specs.declared.blocks.Piece.{Piece}
+use Rattle.no_read_functions.specs.declared.blocks.Piece.TheVariants as piece
 use Rattle.no_read_instructions.specs.Instructions.{an_instr}
-use Rattle.no_read_tops.specs.Tops.{inside, a_declaration}
-use Rattle.no_read_modules.specs.Functions.{head_body, written, a_function}
-use Rattle.no_read_modules.specs.declared.functions.Written.{Written}
+use Rattle.no_read_toplevel.specs.Entities.{a_declaration}
+use Rattle.no_read_attributes.specs.Own.{inside}
+use Rattle.no_read_functions.specs.Functions.{head_body, written, a_function}
+use Rattle.no_read_functions.specs.declared.functions.Written.{Written}
 use Rattle.no_module.specs.Formed.{Counts, Within, type_formed, result_formed, constant_formed, alignment_formed, global_formed, label_formed, instr_formed, block_formed, param_formed}
 use Rattle.no_module.specs.Marks.{instr_unmarked, block_unmarked}
 use Rattle.no_module.specs.Scalars.{is_void, void_step}

@@ -23,28 +23,30 @@ use Rattle.no_read_attributes.specs.declared.attribute.Attribute.{Attribute}
 use Rattle.no_read_attributes.specs.declared.attribute.Attribute.TheVariants as attribute
 use Rattle.no_read_attributes.specs.declared.marks.Mark.{Mark}
 use Rattle.no_read_attributes.specs.declared.marks.Mark.TheVariants as mark
-use Rattle.no_read_heads.specs.Heads.{words_type, params, head_marks, a_head}
-use Rattle.no_read_heads.specs.declared.heads.Head.{Head}
+use Rattle.no_read_functions.specs.Heads.{words_type, params, head_marks, a_head}
+use Rattle.no_read_functions.specs.declared.heads.Head.{Head}
 use Rattle.no_read_constants.specs.Constants.{resolved}
-use Rattle.no_read_globals.specs.Globals.{symbol_name, a_global}
+use Rattle.no_read_toplevel.specs.Globals.{a_global}
+use Rattle.no_read_attributes.specs.Symbols.{symbol_name}
 use Rattle.no_read_registers.specs.declared.locals.Locals.{Locals}
 use Rattle.no_read_registers.specs.Numbered.{no_locals_yet}
-use Rattle.no_read_blocks.specs.Blocks.{body}
+use Rattle.no_read_functions.specs.Blocks.{body}
 use Rattle.no_read_instructions.specs.Instructions.{an_instr}
-use Rattle.no_read_tops.specs.Tops.{a_source, a_target, a_group, a_node, a_declaration, group_of, inside}
+use Rattle.no_read_toplevel.specs.Entities.{a_source, a_target, a_group, a_node, a_declaration, group_of}
+use Rattle.no_read_attributes.specs.Own.{inside}
 use Rattle.no_read_symbols.specs.Scan.{symbols_in}
-use Rattle.no_read_modules.specs.declared.functions.Written.{Written}
-use Rattle.no_read_modules.specs.declared.groups.Settings.{Settings}
-use Rattle.no_read_modules.specs.declared.tops.Top.{Top}
-use Rattle.no_read_modules.specs.declared.tops.Top.TheVariants as top
-use Rattle.no_read_modules.specs.declared.tops.TopWord.{TopWord}
-use Rattle.no_read_modules.specs.declared.tops.TopWord.TheVariants as begins
-use Rattle.no_read_modules.specs.Functions.{a_function, head_body, written}
-use Rattle.no_read_modules.specs.Grouping.{nothing_set, set_by, set_by_all, found_in, all_grouped, no_groups}
-use Rattle.no_read_modules.specs.Modules.{with_marks, set_function, function_of, functions_in, globals_in, module_of, IsModuleOf}
-use Rattle.no_read_modules.specs.Tops.{begins_top, top_word, source_top, layout_top, target_top, function_top, declared, declared_top, group_top, global_top, node_top, after_word, worded, a_top, more_tops, tops}
-use Rattle.no_read_modules.specs.WrittenOut.{marks_named, one_written, written_out}
-use Rattle.no_read_modules.proofs.WrittenLaws.{written_out_is}
+use Rattle.no_read_functions.specs.declared.functions.Written.{Written}
+use Rattle.no_read_toplevel.specs.declared.groups.Settings.{Settings}
+use Rattle.no_read_toplevel.specs.declared.tops.Top.{Top}
+use Rattle.no_read_toplevel.specs.declared.tops.Top.TheVariants as top
+use Rattle.no_read_toplevel.specs.declared.tops.TopWord.{TopWord}
+use Rattle.no_read_toplevel.specs.declared.tops.TopWord.TheVariants as begins
+use Rattle.no_read_functions.specs.Functions.{a_function, head_body, written}
+use Rattle.no_read_toplevel.specs.Grouping.{nothing_set, set_by, set_by_all, found_in, all_grouped, no_groups}
+use Rattle.no_read_toplevel.specs.Modules.{with_marks, set_function, function_of, functions_in, globals_in, module_of, IsModuleOf}
+use Rattle.no_read_toplevel.specs.Tops.{begins_top, top_word, source_top, layout_top, target_top, function_top, declared, declared_top, group_top, global_top, node_top, after_word, worded, a_top, more_tops, tops}
+use Rattle.no_read_toplevel.specs.WrittenOut.{marks_named, one_written, written_out}
+use Rattle.no_read_toplevel.proofs.WrittenLaws.{written_out_is}
 use Rattle.no_read_names.specs.Defined.{names_once}
 use Rattle.no_read_names.proofs.Named.{globals_named, functions_named}
 use Rattle.no_module.specs.Formed.{Counts, Within, counts_of, types_formed, global_formed, function_formed, param_formed, block_formed, instr_formed, label_formed, within, IsFormed}

@@ -6,7 +6,7 @@ ghost use Rattle.no_ir.specs.declared.function.Module.{Module};
 ghost use Rattle.no_ir.specs.declared.function.Role.{Role};
 ghost use Rattle.no_read_rules.specs.Scope.{Meaning};
 ghost use Rattle.no_read_rules.specs.Types.{a_type};
-ghost use Rattle.no_read_modules.specs.Modules.{IsModuleOf};
+ghost use Rattle.no_read_toplevel.specs.Modules.{IsModuleOf};
 ghost use Rattle.no_module.specs.Formed.{IsFormed, type_formed};
 ghost use Rattle.no_module.specs.Marks.{MarksAllowed};
 ghost use Rattle.no_read_types.specs.declared.definition.Lifting.{Lifting};

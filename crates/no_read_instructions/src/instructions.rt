@@ -13,7 +13,7 @@ use no_ir::{Instr, Op, Role};
 use no_lex::{Token, TokenKind};
 use no_read_operations::{
     address, alloca, binary, br, cast_form, compare, freeze, load, phi, ret, select, store, switch,
-    unreachable,
+    with_end,
 };
 use no_read_registers::{Locals, a_definition};
 use no_read_rules::{Scope, Stop, is_kind, skip_sign, skip_word};
@@ -30,15 +30,21 @@ fn giver_form<'b>(
 ) -> Result<((Op, bool), &'b [Token]), Stop>
     ensures { Gives (λ x. (x.0, locals.new, x.1.now)) result ((giver_form (seen scope.now) role giver).read locals.old tokens.now) }
 {
+    let text = scope.text;
     match giver {
-        Giver::Binary(op) => binary(alloc, scope, role, locals, op, tokens),
-        Giver::Cast(op) => cast_form(alloc, scope, role, locals, op, tokens),
-        Giver::Compare => compare(alloc, scope, role, locals, tokens),
-        Giver::Freeze => freeze(alloc, scope, role, locals, tokens),
-        Giver::Select => select(alloc, scope, role, locals, tokens),
+        Giver::Binary(op) => with_end(text, role, false, binary(alloc, scope, locals, op, tokens)),
+        Giver::Cast(op) => with_end(
+            text,
+            role,
+            false,
+            cast_form(alloc, scope, locals, op, tokens),
+        ),
+        Giver::Compare => with_end(text, role, false, compare(alloc, scope, locals, tokens)),
+        Giver::Freeze => with_end(text, role, false, freeze(alloc, scope, locals, tokens)),
+        Giver::Select => with_end(text, role, false, select(alloc, scope, locals, tokens)),
         Giver::Phi => phi(alloc, scope, role, locals, tokens),
         Giver::Alloca => alloca(alloc, scope, role, locals, tokens),
-        Giver::Load => load(alloc, scope, role, locals, tokens),
+        Giver::Load => with_end(text, role, true, load(alloc, scope, locals, tokens)),
         Giver::Address => address(alloc, scope, role, locals, tokens),
     }
 }
@@ -54,12 +60,13 @@ fn action_form<'b>(
 ) -> Result<((Op, bool), &'b [Token]), Stop>
     ensures { Gives (λ x. (x.0, locals.new, x.1.now)) result ((action_form (seen scope.now) role action).read locals.old tokens.now) }
 {
+    let text = scope.text;
     match action {
-        Action::Store => store(alloc, scope, role, locals, tokens),
-        Action::Br => br(alloc, scope, role, locals, tokens),
-        Action::Switch => switch(alloc, scope, role, locals, tokens),
-        Action::Ret => ret(alloc, scope, role, locals, tokens),
-        Action::Unreachable => unreachable(scope.text, role, tokens),
+        Action::Store => with_end(text, role, true, store(alloc, scope, locals, tokens)),
+        Action::Br => with_end(text, role, false, br(alloc, scope, locals, tokens)),
+        Action::Switch => with_end(text, role, false, switch(alloc, scope, locals, tokens)),
+        Action::Ret => with_end(text, role, false, ret(alloc, scope, locals, tokens)),
+        Action::Unreachable => with_end(text, role, false, Ok((Op::Unreachable, tokens))),
     }
 }
 

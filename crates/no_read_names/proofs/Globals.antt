@@ -17,9 +17,10 @@ use Rattle.no_read_constants.specs.Skipped.{behind}
 use Rattle.no_read_attributes.specs.Attributes.{alignment_of, string_of}
 use Rattle.no_read_attributes.specs.Ending.{more_where}
 use Rattle.no_read_attributes.specs.Words.{is_node, is_one}
-use Rattle.no_read_globals.specs.declared.globals.TailHead.{TailHead}
-use Rattle.no_read_globals.specs.declared.globals.TailHead.TheVariants.{Align, Section, Attachment}
-use Rattle.no_read_globals.specs.Globals.{symbol_name, linkage_words, visibility_words, is_idle, constant_of, is_metadata, metadata_of, tail_head, after_tail_head, a_tail, is_comma, more_tail, last_of, tails, a_global}
+use Rattle.no_read_toplevel.specs.declared.globals.TailHead.{TailHead}
+use Rattle.no_read_toplevel.specs.declared.globals.TailHead.TheVariants.{Align, Section, Attachment}
+use Rattle.no_read_toplevel.specs.Globals.{linkage_words, visibility_words, is_idle, constant_of, is_metadata, metadata_of, tail_head, after_tail_head, a_tail, is_comma, more_tail, last_of, tails, a_global}
+use Rattle.no_read_attributes.specs.Symbols.{symbol_name}
 use Rattle.no_read_symbols.specs.declared.symbols.Symbols.{Symbols}
 use Rattle.no_read_symbols.specs.Scan.{symbols_from}
 use Rattle.no_read_names.proofs.Marks.{both, spells, where_true, only_true, word_token, a_word_token, a_sign_token, meta_token, other_than}

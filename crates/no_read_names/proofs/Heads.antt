@@ -13,10 +13,10 @@ use Rattle.no_read_rules.specs.Spelled.{spelled, is_kind, is_word, is_sign, a_wo
 use Rattle.no_read_rules.specs.Types.{a_type}
 use Rattle.no_read_rules.specs.Unescaped.{name_of}
 use Rattle.no_read_attributes.specs.Attributes.{skip_attributes}
-use Rattle.no_read_globals.specs.Globals.{symbol_name}
+use Rattle.no_read_attributes.specs.Symbols.{symbol_name}
 use Rattle.no_read_registers.specs.Numbered.{a_definition, no_name}
-use Rattle.no_read_heads.specs.declared.heads.Head.{Head}
-use Rattle.no_read_heads.specs.Heads.{any_name, or_no_name, own_name, place_name, param_name, a_param, params, result_type, words_type, head_marks, a_head}
+use Rattle.no_read_functions.specs.declared.heads.Head.{Head}
+use Rattle.no_read_functions.specs.Heads.{any_name, or_no_name, own_name, place_name, param_name, a_param, params, result_type, words_type, head_marks, a_head}
 use Rattle.no_read_symbols.specs.declared.standing.Bracket.TheVariants as bracket
 use Rattle.no_read_symbols.specs.declared.symbols.Symbols.{Symbols}
 use Rattle.no_read_symbols.specs.Scan.{bracket_of, symbols_from}

@@ -29,8 +29,8 @@ use Rattle.no_read_instructions.specs.declared.heads.Action.{Action}
 use Rattle.no_read_instructions.specs.declared.heads.Action.TheVariants as action
 use Rattle.no_read_instructions.specs.declared.heads.InstrHead.{InstrHead}
 use Rattle.no_read_instructions.specs.declared.heads.InstrHead.TheVariants as head
-use Rattle.no_read_blocks.specs.Blocks.{is_close, is_label, blocks_of, closing, label_piece, instr_piece, labelled, unlabelled, a_piece, entry, body}
-use Rattle.no_read_blocks.specs.declared.blocks.Piece.TheVariants as piece
+use Rattle.no_read_functions.specs.Blocks.{is_close, is_label, blocks_of, closing, label_piece, instr_piece, labelled, unlabelled, a_piece, entry, body}
+use Rattle.no_read_functions.specs.declared.blocks.Piece.TheVariants as piece
 use Rattle.no_read_names.proofs.Marks.{both, where_true, only_true, a_word_token, no_bracket}
 use Rattle.no_read_names.proofs.RuleMoves.{Runs, AllAt, Until, plain_at, done_runs, lift_runs, then_runs, ahead_runs, if_next_at, if_next_runs, repeat_runs, items_run, none_until, some_map, anywhere, below, opens_round, closes_brace, round_closing}
 use Rattle.no_read_names.proofs.Spots.{Spot, Round, flat, deep, Moves, moves_anywhere, other_moves, deep_moves}

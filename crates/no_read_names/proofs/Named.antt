@@ -11,12 +11,12 @@ use Rattle.no_ir.specs.Naming.{with_name}
 use Rattle.no_read_rules.specs.Rules.{next_is, Avoids}
 use Rattle.no_read_rules.specs.Scope.{Meaning}
 use Rattle.no_read_rules.specs.Spelled.{kind_number, spelled}
-use Rattle.no_read_modules.specs.declared.groups.Settings.{Settings}
-use Rattle.no_read_modules.specs.declared.tops.Top.{Top}
-use Rattle.no_read_modules.specs.declared.tops.Top.TheVariants as top
-use Rattle.no_read_modules.specs.Grouping.{found_in, all_grouped, no_groups}
-use Rattle.no_read_modules.specs.Modules.{functions_in, globals_in, IsModuleOf}
-use Rattle.no_read_modules.specs.Tops.{begins_top, a_top, more_tops, tops}
+use Rattle.no_read_toplevel.specs.declared.groups.Settings.{Settings}
+use Rattle.no_read_toplevel.specs.declared.tops.Top.{Top}
+use Rattle.no_read_toplevel.specs.declared.tops.Top.TheVariants as top
+use Rattle.no_read_toplevel.specs.Grouping.{found_in, all_grouped, no_groups}
+use Rattle.no_read_toplevel.specs.Modules.{functions_in, globals_in, IsModuleOf}
+use Rattle.no_read_toplevel.specs.Tops.{begins_top, a_top, more_tops, tops}
 use Rattle.no_read_symbols.specs.declared.symbols.Symbols.{Symbols}
 use Rattle.no_read_symbols.specs.Scan.{symbols_from, symbols_in}
 use Rattle.no_read_names.specs.Defined.{names_once, global_names, function_names, defined_by}

@@ -14,21 +14,22 @@ use Rattle.no_read_rules.specs.Spelled.{kind_number, spelled, is_kind, is_word, 
 use Rattle.no_read_attributes.specs.Attributes.{string_of, attribute_marks}
 use Rattle.no_read_attributes.specs.Brackets.{bracketed}
 use Rattle.no_read_attributes.specs.Words.{is_record}
-use Rattle.no_read_globals.specs.Globals.{metadata_of, a_global}
-use Rattle.no_read_heads.specs.Heads.{a_head}
-use Rattle.no_read_heads.specs.declared.heads.Head.{Head}
+use Rattle.no_read_toplevel.specs.Globals.{metadata_of, a_global}
+use Rattle.no_read_functions.specs.Heads.{a_head}
+use Rattle.no_read_functions.specs.declared.heads.Head.{Head}
 use Rattle.no_read_registers.specs.declared.locals.Locals.{Locals}
 use Rattle.no_read_registers.specs.Numbered.{no_locals_yet}
 use Rattle.no_read_instructions.specs.Instructions.{an_instr}
-use Rattle.no_read_blocks.specs.Blocks.{body}
-use Rattle.no_read_tops.specs.Tops.{a_source, target_of, layout_of, a_target, group_of, a_group, is_bare, bare_of, is_distinct, a_node, inside, a_declaration}
-use Rattle.no_read_modules.specs.declared.functions.Written.{Written}
-use Rattle.no_read_modules.specs.declared.tops.Top.{Top}
-use Rattle.no_read_modules.specs.declared.tops.Top.TheVariants as top
-use Rattle.no_read_modules.specs.declared.tops.TopWord.{TopWord}
-use Rattle.no_read_modules.specs.declared.tops.TopWord.TheVariants as begins
-use Rattle.no_read_modules.specs.Functions.{head_body, written, a_function}
-use Rattle.no_read_modules.specs.Tops.{word_of, or_syntax, top_word, source_top, layout_top, target_top, function_top, declared, declared_top, group_top, global_top, node_top, after_word, worded, a_top}
+use Rattle.no_read_functions.specs.Blocks.{body}
+use Rattle.no_read_toplevel.specs.Entities.{a_source, target_of, layout_of, a_target, group_of, a_group, is_bare, bare_of, is_distinct, a_node, a_declaration}
+use Rattle.no_read_attributes.specs.Own.{inside}
+use Rattle.no_read_functions.specs.declared.functions.Written.{Written}
+use Rattle.no_read_toplevel.specs.declared.tops.Top.{Top}
+use Rattle.no_read_toplevel.specs.declared.tops.Top.TheVariants as top
+use Rattle.no_read_toplevel.specs.declared.tops.TopWord.{TopWord}
+use Rattle.no_read_toplevel.specs.declared.tops.TopWord.TheVariants as begins
+use Rattle.no_read_functions.specs.Functions.{head_body, written, a_function}
+use Rattle.no_read_toplevel.specs.Tops.{word_of, or_syntax, top_word, source_top, layout_top, target_top, function_top, declared, declared_top, group_top, global_top, node_top, after_word, worded, a_top}
 use Rattle.no_read_symbols.specs.declared.standing.Bracket.TheVariants as bracket
 use Rattle.no_read_symbols.specs.declared.standing.Standing.{Standing}
 use Rattle.no_read_symbols.specs.declared.symbols.Symbols.{Symbols}

@@ -3,8 +3,8 @@ use Rattle.std.specs.Prelude.{ℕ, List, [], ◌∷◌}
 use Rattle.std.specs.List.{fold}
 use Rattle.no_ir.specs.Naming.{with_name}
 use Rattle.no_read_symbols.specs.declared.symbols.Symbols.{Symbols}
-use Rattle.no_read_modules.specs.declared.tops.Top.{Top}
-use Rattle.no_read_modules.specs.declared.tops.Top.TheVariants as top
+use Rattle.no_read_toplevel.specs.declared.tops.Top.{Top}
+use Rattle.no_read_toplevel.specs.declared.tops.Top.TheVariants as top
 
 -- each name once, in the order of first appearance
 abbrev pub names_once : List (List ℕ) → List (List ℕ)

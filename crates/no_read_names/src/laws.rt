@@ -5,9 +5,9 @@ ghost use Rattle.no_ir.specs.declared.function.Role.{Role};
 ghost use Rattle.no_ir.specs.declared.types.Ty.{Ty};
 ghost use Rattle.no_read_rules.specs.Scope.{Meaning};
 ghost use Rattle.no_read_symbols.specs.Scan.{symbols_in};
-ghost use Rattle.no_read_modules.specs.declared.tops.Top.{Top};
-ghost use Rattle.no_read_modules.specs.Modules.{IsModuleOf};
-ghost use Rattle.no_read_modules.specs.Tops.{tops};
+ghost use Rattle.no_read_toplevel.specs.declared.tops.Top.{Top};
+ghost use Rattle.no_read_toplevel.specs.Modules.{IsModuleOf};
+ghost use Rattle.no_read_toplevel.specs.Tops.{tops};
 ghost use Rattle.no_read_names.specs.Defined.{names_once, defined_by};
 
 /// What one look at each token finds are the names of the module: where the tokens of a text are the forms of a module, the scan of

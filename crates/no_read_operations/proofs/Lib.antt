@@ -1,2 +1,4 @@
+pub mod Ended
 pub mod FoldedLaws
 pub mod FormLaws
+pub mod Grouped

@@ -7,6 +7,7 @@ use Rattle.no_ir.specs.declared.function.Role.TheVariants.{Source, Part}
 use Rattle.no_ir.specs.declared.instruction.Op.{Op}
 use Rattle.no_read_rules.specs.declared.fault.Flaw.{Flaw}
 use Rattle.no_read_rules.specs.declared.fault.Flaw.TheVariants.{Syntax}
+use Rattle.no_read_rules.specs.declared.fault.Stopped.{Stopped}
 use Rattle.no_read_attributes.specs.Attributes.{alignment_of}
 use Rattle.no_read_rules.specs.Rules.{Rule, plain, done, ◌>>=◌, lift, if_next}
 use Rattle.no_read_rules.specs.Spelled.{spelled, is_kind, is_word, is_sign, a_word, a_sign}
@@ -79,6 +80,14 @@ finish text role aligns op = lift (end_mark text role aligns) >>= λ inserted. d
 -- a form and its end
 abbrev pub ended : List ℕ → Role → Bool → Rule Locals Op → Rule Locals (Op × Bool)
 ended text role aligns form = form >>= finish text role aligns
+
+-- an operation, and whether the end that was read behind it says that the partition made it
+abbrev pub with_inserted : Op → Locals → Bool × Unit {0} × List Token → Result ((Op × Bool) × Locals × List Token) Stopped
+with_inserted op s x = Ok ((op, x.0), s, x.2)
+
+-- what is read behind an operation that was read
+abbrev pub behind_form : List ℕ → Role → Bool → Op × Locals × List Token → Result ((Op × Bool) × Locals × List Token) Stopped
+behind_form text role aligns x = (finish text role aligns x.0).read x.1 x.2
 
 -- ---- items behind commas, and then attachments
 

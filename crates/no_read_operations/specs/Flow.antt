@@ -1,5 +1,5 @@
 -- Control flow (LLVM Language Reference, "Terminator Instructions" and "'phi' Instruction").
-use Rattle.std.specs.Prelude.{ℕ, ◌==◌, Bool, false, [], ◌∷◌, codes, Option, Some, None, Result, Ok, Err, if◌then◌else◌}
+use Rattle.std.specs.Prelude.{ℕ, ◌==◌, Bool, false, List, [], ◌∷◌, codes, Option, Some, None, Result, Ok, Err, if◌then◌else◌}
 use Rattle.no_ir.specs.declared.function.Role.{Role}
 use Rattle.no_ir.specs.declared.types.Ty.TheVariants as ty
 use Rattle.no_ir.specs.declared.instruction.Operand.{Operand}
@@ -17,6 +17,7 @@ use Rattle.no_read_registers.specs.declared.locals.Locals.{Locals}
 use Rattle.no_read_registers.specs.Numbered.{a_label, a_label_name}
 use Rattle.no_read_operations.specs.Operands.{word, sign, some_type, a_width, an_operand}
 use Rattle.no_read_operations.specs.Ends.{listed}
+use Rattle.no_read_operations.specs.declared.ends.Listed.{Listed}
 
 -- ---- `ret`
 
@@ -74,6 +75,10 @@ one_case m width = a_case m width >>= λ c. done (Some c)
 abbrev pub more_case : Meaning → ℕ → Rule Locals (Option (ℕ × ℕ))
 more_case m width = if_next (is_sign m.text (codes "]")) (no_case m) (one_case m width)
 
+-- an opening bracket, and the cases up to the closing one
+unfoldable pub all_cases : Meaning → ℕ → Rule Locals (List (ℕ × ℕ))
+all_cases m width = sign m.text (codes "[") >>= λ _. repeat (more_case m width)
+
 unfoldable pub switch : Meaning → Rule Locals Op
 switch m = do
   width ← a_width m
@@ -95,6 +100,10 @@ a_pair m of = do
   label ← a_label_name m.text
   _ ← sign m.text (codes "]")
   done (value, label)
+
+-- at least one pair, and attachments
+unfoldable pub all_pairs : Meaning → Role → Ty → Rule Locals (Listed (Operand × ℕ))
+all_pairs m role of = a_pair m of >>= λ first. listed m.text role (a_pair m of) (record { items = first ∷ []; begun = false; inserted = false })
 
 unfoldable pub phi : Meaning → Role → Rule Locals (Op × Bool)
 phi m role = do

@@ -4,6 +4,7 @@ use Rattle.no_lex.specs.declared.token.Token.{Token}
 use Rattle.no_lex.specs.declared.token.TokenKind.TheVariants.{Meta}
 use Rattle.no_ir.specs.declared.function.Role.{Role}
 use Rattle.no_ir.specs.declared.instruction.Op.{Op}
+use Rattle.no_ir.specs.declared.instruction.Operand.{Operand}
 use Rattle.no_ir.specs.declared.instruction.Op.TheVariants as op
 use Rattle.no_read_rules.specs.Rules.{Rule, done, ◌>>=◌, lift, if_next}
 use Rattle.no_read_rules.specs.Scope.{Meaning}
@@ -14,6 +15,7 @@ use Rattle.no_read_registers.specs.declared.locals.Locals.{Locals}
 use Rattle.no_read_operations.specs.Folded.{folded}
 use Rattle.no_read_operations.specs.Operands.{word, sign, some_type, an_operand, a_pointer, sized_operand}
 use Rattle.no_read_operations.specs.Ends.{is_comma, an_alignment, an_attachment, listed}
+use Rattle.no_read_operations.specs.declared.ends.Listed.{Listed}
 use Rattle.no_read_operations.specs.declared.memory.AllocaEnd.{AllocaEnd}
 
 abbrev pub is_volatile : List ℕ → Token → Bool
@@ -49,6 +51,13 @@ abbrev pub store : Meaning → Rule Locals Op
 store m = if_next (is_volatile m.text) (volatile_store m) (store_parts m false)
 
 -- ---- `getelementptr`
+
+-- behind a comma: at least one index, and attachments
+unfoldable pub all_indices : Meaning → Role → Rule Locals (Listed (ℕ × Operand))
+all_indices m role = do
+  _ ← sign m.text (codes ",")
+  first ← sized_operand m
+  listed m.text role (sized_operand m) (record { items = first ∷ []; begun = false; inserted = false })
 
 unfoldable pub address_parts : Meaning → Role → Rule Locals (Op × Bool)
 address_parts m role = do

@@ -13,7 +13,7 @@ use Rattle.no_read_rules.specs.Types.{a_type, must_be}
 use Rattle.no_read_constants.specs.Places.{width_of}
 use Rattle.no_read_constants.specs.Constants.{a_const}
 use Rattle.no_read_registers.specs.declared.locals.Locals.{Locals}
-use Rattle.no_read_registers.specs.Numbered.{a_register}
+use Rattle.no_read_registers.specs.Numbered.{a_register, a_label}
 use Rattle.no_read_operations.specs.declared.operands.Flags.{Flags}
 use Rattle.no_read_operations.specs.declared.operands.Flags.TheVariants as flags
 
@@ -60,6 +60,46 @@ sized_operand m = do
   width ← a_width m
   value ← an_operand m (ty.Int width)
   done (width, value)
+
+-- ---- parts that several forms have
+
+-- a type, and an operand at it
+unfoldable pub typed_operand : Meaning → Rule Locals (Ty × Operand)
+typed_operand m = do
+  of ← some_type m
+  value ← an_operand m of
+  done (of, value)
+
+-- two operands at one type, with a comma between them
+unfoldable pub two_operands : Meaning → Ty → Rule Locals (Operand × Operand)
+two_operands m of = do
+  first ← an_operand m of
+  _ ← sign m.text (codes ",")
+  second ← an_operand m of
+  done (first, second)
+
+-- a bit, as conditions are
+unfoldable pub bit_operand : Meaning → Rule Locals Operand
+bit_operand m = word m.text (codes "i1") >>= λ _. an_operand m (ty.Int 1)
+
+-- behind a comma: another operand, with its type, which has to be this one
+unfoldable pub comma_same : Meaning → Ty → Rule Locals Operand
+comma_same m of = do
+  _ ← sign m.text (codes ",")
+  _ ← this_type m of
+  an_operand m of
+
+-- behind the word `to`: a type
+unfoldable pub to_type : Meaning → Rule Locals Ty
+to_type m = word m.text (codes "to") >>= λ _. some_type m
+
+-- behind a comma: an address
+unfoldable pub comma_pointer : Meaning → Rule Locals Operand
+comma_pointer m = sign m.text (codes ",") >>= λ _. a_pointer m
+
+-- behind a comma: a label
+unfoldable pub comma_label : List ℕ → Rule Locals ℕ
+comma_label text = sign text (codes ",") >>= λ _. a_label text
 
 -- ---- words without an effect
 

@@ -1,10 +1,13 @@
-ghost use Rattle.std.specs.Prelude.{◌≡◌, ◌∷◌, ◌++◌, [], true, false, codes};
-ghost use Rattle.no_read_rules.specs.Rules.{Gives, valued, plain, next_is};
+ghost use Rattle.std.specs.Prelude.{◌≡◌, ◌∷◌, ◌++◌, [], true, false, codes, Bool, List, Result};
+ghost use Rattle.no_lex.specs.declared.token.Token.{Token};
+ghost use Rattle.no_ir.specs.declared.instruction.Op.{Op};
+ghost use Rattle.no_read_rules.specs.declared.fault.Stopped.{Stopped};
+ghost use Rattle.no_read_rules.specs.Rules.{Gives, after, valued, plain, next_is};
 ghost use Rattle.no_read_attributes.specs.Attributes.{alignment_of};
 ghost use Rattle.no_read_rules.specs.Spelled.{is_sign};
 ghost use Rattle.no_read_registers.specs.declared.locals.Locals.{Locals};
 ghost use Rattle.no_read_operations.specs.Folded.{folded_all};
-ghost use Rattle.no_read_operations.specs.Ends.{is_comma, an_alignment, names_node, is_node, node_is, marks, an_attachment, end_alignment, end_attachment, end_step, end_mark, finish};
+ghost use Rattle.no_read_operations.specs.Ends.{is_comma, an_alignment, names_node, is_node, node_is, marks, an_attachment, end_alignment, end_attachment, end_step, end_mark, finish, with_inserted, behind_form, list_attachment};
 
 use no_ir::{List, Op, Role};
 use no_lex::{Token, TokenKind};
@@ -83,6 +86,30 @@ pub struct Listed<T> {
     pub items: List<T>,
     pub begun: bool,
     pub inserted: bool,
+}
+
+/// An attachment behind items.
+#[tactic(auto, unfolding(crate::specs::Ends::list_attachment))]
+pub(crate) fn list_attachment<'b, T: Drop>(
+    text: &[u8],
+    role: Role,
+    listed: Listed<T>,
+    tokens: &'b [Token],
+) -> Result<(Listed<T>, &'b [Token]), Stop>
+    ensures { (s : Locals) → Gives (λ x. (x.0, s, x.1.now)) result ((list_attachment text.now role listed).read s tokens.now) }
+{
+    let Listed {
+        items,
+        inserted,
+        ..
+    } = listed;
+    let (inserted, rest) = an_attachment(text, role, inserted, tokens)?;
+    let listed = Listed {
+        items,
+        begun: true,
+        inserted,
+    };
+    Ok((listed, rest))
 }
 
 #[tactic(auto, unfolding(crate::specs::Ends::end_alignment))]
@@ -182,15 +209,31 @@ pub fn end_mark<'b>(
     Ok((ending.inserted, rest))
 }
 
-/// The end of an instruction that has no operands, `unreachable`.
-#[tactic(auto, unfolding(crate::specs::Ends::finish))]
-pub fn unreachable<'b>(
+/// An operation, behind which the end was read.
+fn ended<'b>(
+    op: Op,
+    end: Result<(bool, &'b [Token]), Stop>,
+) -> Result<((Op, bool), &'b [Token]), Stop>
+    ensures { (read : Result (Bool × Unit {0} × List Token) Stopped) (s : Locals) → Gives (λ x. valued x.0 x.1.now) end.entry read → Gives (λ x. (x.0, s, x.1.now)) result (after read (with_inserted op s)) }
+{
+    match end {
+        Ok((inserted, rest)) => Ok(((op, inserted), rest)),
+        Err(stop) => {
+            drop(op);
+            Err(stop)
+        }
+    }
+}
+
+/// The end of an instruction behind its operation: one alignment where it may have one, and attachments.
+pub fn with_end<'b>(
     text: &[u8],
     role: Role,
-    tokens: &'b [Token],
+    aligns: bool,
+    form: Result<(Op, &'b [Token]), Stop>,
 ) -> Result<((Op, bool), &'b [Token]), Stop>
-    ensures { (s : Locals) → Gives (λ x. (x.0, s, x.1.now)) result ((finish text.now role false Op.Unreachable).read s tokens.now) }
+    ensures { (s : Locals) (read : Result (Op × Locals × List Token) Stopped) → Gives (λ x. (x.0, s, x.1.now)) form.entry read → Gives (λ x. (x.0, s, x.1.now)) result (after read (behind_form text.now role aligns)) }
 {
-    let (inserted, rest) = end_mark(text, role, false, tokens)?;
-    Ok(((Op::Unreachable, inserted), rest))
+    let (op, rest) = form?;
+    ended(op, end_mark(text, role, aligns, rest))
 }

@@ -6,11 +6,11 @@ ghost use Rattle.no_read_rules.specs.Scope.{Meaning, seen};
 ghost use Rattle.no_read_constants.specs.Places.{width_of};
 ghost use Rattle.no_read_registers.specs.declared.locals.Locals.{Locals};
 ghost use Rattle.no_read_operations.specs.Folded.{folded_all};
-ghost use Rattle.no_read_operations.specs.Ends.{ended, finish, is_comma, list_item, list_attachment, list_step};
-ghost use Rattle.no_read_operations.specs.Flow.{return_void, return_value, ret, branch, branch_if, br, same_width, a_case, no_case, one_case, more_case, switch, a_pair, phi};
+ghost use Rattle.no_read_operations.specs.Ends.{is_comma, list_item, list_step};
+ghost use Rattle.no_read_operations.specs.Flow.{return_void, return_value, ret, branch, branch_if, br, same_width, a_case, no_case, one_case, more_case, all_cases, switch, a_pair, all_pairs, phi};
 
-use crate::ends::{Listed, an_attachment, comma_next, end_mark};
-use crate::operands::{an_operand, some_type};
+use crate::ends::{Listed, comma_next, list_attachment};
+use crate::operands::{an_operand, bit_operand, comma_label, some_type, typed_operand};
 use no_ir::{List, Op, Operand, Role, Ty};
 use no_lex::{Token, TokenKind};
 use no_read_constants::{number_at, width_of};
@@ -20,101 +20,82 @@ use std::alloc::Global;
 
 // ---- `ret` and `br`
 
-#[tactic(auto, unfolding(crate::specs::Flow::return_void, crate::specs::Ends::finish))]
-fn return_void<'b>(
-    scope: &Scope,
-    role: Role,
-    tokens: &'b [Token],
-) -> Result<((Op, bool), &'b [Token]), Stop>
-    ensures { (s : Locals) → Gives (λ x. (x.0, s, x.1.now)) result ((ended (seen scope.now).text role false (return_void (seen scope.now))).read s tokens.now) }
+#[tactic(auto, unfolding(crate::specs::Flow::return_void))]
+fn return_void<'b>(scope: &Scope, tokens: &'b [Token]) -> Result<(Op, &'b [Token]), Stop>
+    ensures { (s : Locals) → Gives (λ x. (x.0, s, x.1.now)) result ((return_void (seen scope.now)).read s tokens.now) }
 {
     let rest = skip_word(scope.text, b"void", tokens)?;
-    let (inserted, rest) = end_mark(scope.text, role, false, rest)?;
-    Ok(((Op::Ret(None), inserted), rest))
+    Ok((Op::Ret(None), rest))
 }
 
-#[tactic(auto, unfolding(crate::specs::Flow::return_value, crate::specs::Ends::finish))]
+#[tactic(auto, using(crate::proofs::Grouped::return_is))]
 fn return_value<'b>(
     alloc: Global,
     scope: &Scope,
-    role: Role,
     locals: &mut Locals,
     tokens: &'b [Token],
-) -> Result<((Op, bool), &'b [Token]), Stop>
-    ensures { Gives (λ x. (x.0, locals.new, x.1.now)) result ((ended (seen scope.now).text role false (return_value (seen scope.now))).read locals.old tokens.now) }
+) -> Result<(Op, &'b [Token]), Stop>
+    ensures { Gives (λ x. (x.0, locals.new, x.1.now)) result ((return_value (seen scope.now)).read locals.old tokens.now) }
 {
-    let (of, rest) = some_type(alloc, scope, tokens)?;
-    let (value, rest) = an_operand(alloc, scope, locals, &of, rest)?;
-    let (inserted, rest) = end_mark(scope.text, role, false, rest)?;
-    Ok(((Op::Ret(Some((of, value))), inserted), rest))
+    let (value, rest) = typed_operand(alloc, scope, locals, tokens)?;
+    Ok((Op::Ret(Some(value)), rest))
 }
 
 /// Behind `ret`: `void`, or `T a`.
 pub fn ret<'b>(
     alloc: Global,
     scope: &Scope,
-    role: Role,
     locals: &mut Locals,
     tokens: &'b [Token],
-) -> Result<((Op, bool), &'b [Token]), Stop>
-    ensures { Gives (λ x. (x.0, locals.new, x.1.now)) result ((ended (seen scope.now).text role false (ret (seen scope.now))).read locals.old tokens.now) }
+) -> Result<(Op, &'b [Token]), Stop>
+    ensures { Gives (λ x. (x.0, locals.new, x.1.now)) result ((ret (seen scope.now)).read locals.old tokens.now) }
 {
     match tokens {
-        [token, ..] if is_word(scope.text, b"void", token) => return_void(scope, role, tokens),
-        _ => return_value(alloc, scope, role, locals, tokens),
+        [token, ..] if is_word(scope.text, b"void", token) => return_void(scope, tokens),
+        _ => return_value(alloc, scope, locals, tokens),
     }
 }
 
-#[tactic(auto, unfolding(crate::specs::Flow::branch, crate::specs::Ends::finish))]
+#[tactic(auto, unfolding(crate::specs::Flow::branch))]
 fn branch<'b>(
     alloc: Global,
     scope: &Scope,
-    role: Role,
     locals: &mut Locals,
     tokens: &'b [Token],
-) -> Result<((Op, bool), &'b [Token]), Stop>
-    ensures { Gives (λ x. (x.0, locals.new, x.1.now)) result ((ended (seen scope.now).text role false (branch (seen scope.now))).read locals.old tokens.now) }
+) -> Result<(Op, &'b [Token]), Stop>
+    ensures { Gives (λ x. (x.0, locals.new, x.1.now)) result ((branch (seen scope.now)).read locals.old tokens.now) }
 {
     let (label, rest) = a_label(alloc, scope.text, locals, tokens)?;
-    let (inserted, rest) = end_mark(scope.text, role, false, rest)?;
-    Ok(((Op::Br(label), inserted), rest))
+    Ok((Op::Br(label), rest))
 }
 
-#[tactic(auto, unfolding(crate::specs::Flow::branch_if, crate::specs::Ends::finish))]
+#[tactic(auto, using(crate::proofs::Grouped::branch_is))]
 fn branch_if<'b>(
     alloc: Global,
     scope: &Scope,
-    role: Role,
     locals: &mut Locals,
     tokens: &'b [Token],
-) -> Result<((Op, bool), &'b [Token]), Stop>
-    ensures { Gives (λ x. (x.0, locals.new, x.1.now)) result ((ended (seen scope.now).text role false (branch_if (seen scope.now))).read locals.old tokens.now) }
+) -> Result<(Op, &'b [Token]), Stop>
+    ensures { Gives (λ x. (x.0, locals.new, x.1.now)) result ((branch_if (seen scope.now)).read locals.old tokens.now) }
 {
-    let rest = skip_word(scope.text, b"i1", tokens)?;
-    let (condition, rest) = an_operand(alloc, scope, locals, &Ty::Int(1), rest)?;
-    let rest = skip_sign(scope.text, b",", rest)?;
-    let (first, rest) = a_label(alloc, scope.text, locals, rest)?;
-    let rest = skip_sign(scope.text, b",", rest)?;
-    let (second, rest) = a_label(alloc, scope.text, locals, rest)?;
-    let (inserted, rest) = end_mark(scope.text, role, false, rest)?;
-    Ok(((Op::CondBr(condition, first, second), inserted), rest))
+    let (condition, rest) = bit_operand(alloc, scope, locals, tokens)?;
+    let (first, rest) = comma_label(alloc, scope.text, locals, rest)?;
+    let (second, rest) = comma_label(alloc, scope.text, locals, rest)?;
+    Ok((Op::CondBr(condition, first, second), rest))
 }
 
 /// Behind `br`: `label %l`, or `i1 c, label %l, label %m`.
 pub fn br<'b>(
     alloc: Global,
     scope: &Scope,
-    role: Role,
     locals: &mut Locals,
     tokens: &'b [Token],
-) -> Result<((Op, bool), &'b [Token]), Stop>
-    ensures { Gives (λ x. (x.0, locals.new, x.1.now)) result ((ended (seen scope.now).text role false (br (seen scope.now))).read locals.old tokens.now) }
+) -> Result<(Op, &'b [Token]), Stop>
+    ensures { Gives (λ x. (x.0, locals.new, x.1.now)) result ((br (seen scope.now)).read locals.old tokens.now) }
 {
     match tokens {
-        [token, ..] if is_word(scope.text, b"label", token) => branch(
-            alloc, scope, role, locals, tokens,
-        ),
-        _ => branch_if(alloc, scope, role, locals, tokens),
+        [token, ..] if is_word(scope.text, b"label", token) => branch(alloc, scope, locals, tokens),
+        _ => branch_if(alloc, scope, locals, tokens),
     }
 }
 
@@ -131,7 +112,7 @@ fn this_width<'b>(text: &[u8], want: u8, tokens: &'b [Token]) -> Result<&'b [Tok
     }
 }
 
-#[tactic(auto, unfolding(crate::specs::Flow::a_case))]
+#[tactic(auto, using(crate::proofs::Grouped::case_is))]
 fn a_case<'b>(
     alloc: Global,
     scope: &Scope,
@@ -143,8 +124,7 @@ fn a_case<'b>(
 {
     let rest = this_width(scope.text, width, tokens)?;
     let (number, rest) = number_at(scope.text, width, rest)?;
-    let rest = skip_sign(scope.text, b",", rest)?;
-    let (label, rest) = a_label(alloc, scope.text, locals, rest)?;
+    let (label, rest) = comma_label(alloc, scope.text, locals, rest)?;
     Ok(((number, label), rest))
 }
 
@@ -211,25 +191,36 @@ fn cases<'b>(
     }
 }
 
+/// An opening bracket, and the cases up to the closing one.
+#[tactic(auto, unfolding(crate::specs::Flow::all_cases))]
+fn all_cases<'b>(
+    alloc: Global,
+    scope: &Scope,
+    locals: &mut Locals,
+    width: u8,
+    tokens: &'b [Token],
+) -> Result<(List<(u64, u32)>, &'b [Token]), Stop>
+    ensures { Gives (λ x. (x.0, locals.new, x.1.now)) result ((all_cases (seen scope.now) width).read locals.old tokens.now) }
+{
+    let rest = skip_sign(scope.text, b"[", tokens)?;
+    cases(alloc, scope, locals, width, rest)
+}
+
 /// Behind `switch`: `iN a, label %d`, and cases `iN k, label %l` in square brackets.
-#[tactic(auto, unfolding(crate::specs::Flow::switch, crate::specs::Ends::finish))]
+#[tactic(auto, using(crate::proofs::Grouped::switch_is))]
 pub fn switch<'b>(
     alloc: Global,
     scope: &Scope,
-    role: Role,
     locals: &mut Locals,
     tokens: &'b [Token],
-) -> Result<((Op, bool), &'b [Token]), Stop>
-    ensures { Gives (λ x. (x.0, locals.new, x.1.now)) result ((ended (seen scope.now).text role false (switch (seen scope.now))).read locals.old tokens.now) }
+) -> Result<(Op, &'b [Token]), Stop>
+    ensures { Gives (λ x. (x.0, locals.new, x.1.now)) result ((switch (seen scope.now)).read locals.old tokens.now) }
 {
     let (width, rest) = width_of(scope.text, tokens)?;
     let (value, rest) = an_operand(alloc, scope, locals, &Ty::Int(width), rest)?;
-    let rest = skip_sign(scope.text, b",", rest)?;
-    let (other, rest) = a_label(alloc, scope.text, locals, rest)?;
-    let rest = skip_sign(scope.text, b"[", rest)?;
-    let (cases, rest) = cases(alloc, scope, locals, width, rest)?;
-    let (inserted, rest) = end_mark(scope.text, role, false, rest)?;
-    Ok(((Op::Switch(width, value, other, cases), inserted), rest))
+    let (other, rest) = comma_label(alloc, scope.text, locals, rest)?;
+    let (cases, rest) = all_cases(alloc, scope, locals, width, rest)?;
+    Ok((Op::Switch(width, value, other, cases), rest))
 }
 
 // ---- `phi`
@@ -278,29 +269,6 @@ fn pair_item<'b>(
     Ok((listed, rest))
 }
 
-#[tactic(auto, unfolding(crate::specs::Ends::list_attachment))]
-fn pair_attachment<'b>(
-    text: &[u8],
-    role: Role,
-    listed: Listed<(Operand, u32)>,
-    tokens: &'b [Token],
-) -> Result<(Listed<(Operand, u32)>, &'b [Token]), Stop>
-    ensures { (s : Locals) → Gives (λ x. (x.0, s, x.1.now)) result ((list_attachment text.now role listed).read s tokens.now) }
-{
-    let Listed {
-        items,
-        inserted,
-        ..
-    } = listed;
-    let (inserted, rest) = an_attachment(text, role, inserted, tokens)?;
-    let listed = Listed {
-        items,
-        begun: true,
-        inserted,
-    };
-    Ok((listed, rest))
-}
-
 #[tactic(auto, unfolding(crate::specs::Ends::list_step))]
 fn pair_step<'b>(
     alloc: Global,
@@ -318,7 +286,7 @@ fn pair_step<'b>(
         [token, ..] if !listed.begun && !is_kind(TokenKind::Meta, token) => pair_item(
             alloc, scope, locals, of, listed, rest,
         ),
-        _ => pair_attachment(scope.text, role, listed, rest),
+        _ => list_attachment(scope.text, role, listed, rest),
     }
 }
 
@@ -343,8 +311,31 @@ fn pairs<'b>(
     Ok((listed, rest))
 }
 
+/// At least one pair, and attachments.
+#[tactic(auto, unfolding(crate::specs::Flow::all_pairs))]
+fn all_pairs<'b>(
+    alloc: Global,
+    scope: &Scope,
+    role: Role,
+    locals: &mut Locals,
+    of: &Ty,
+    tokens: &'b [Token],
+) -> Result<(Listed<(Operand, u32)>, &'b [Token]), Stop>
+    ensures { Gives (λ x. (x.0, locals.new, x.1.now)) result ((all_pairs (seen scope.now) role of.now).read locals.old tokens.now) }
+{
+    let (first, rest) = a_pair(alloc, scope, locals, of, tokens)?;
+    let mut items = List::new(alloc);
+    items.push(first)?;
+    let start = Listed {
+        items,
+        begun: false,
+        inserted: false,
+    };
+    pairs(alloc, scope, role, locals, of, start, rest)
+}
+
 /// Behind `phi`: `T`, at least one `[ a, %l ]`, and attachments; whether the partition made the instruction.
-#[tactic(auto, unfolding(crate::specs::Flow::phi))]
+#[tactic(auto, using(crate::proofs::Grouped::phi_is))]
 pub fn phi<'b>(
     alloc: Global,
     scope: &Scope,
@@ -355,15 +346,7 @@ pub fn phi<'b>(
     ensures { Gives (λ x. (x.0, locals.new, x.1.now)) result ((phi (seen scope.now) role).read locals.old tokens.now) }
 {
     let (of, rest) = some_type(alloc, scope, tokens)?;
-    let (first, rest) = a_pair(alloc, scope, locals, &of, rest)?;
-    let mut items = List::new(alloc);
-    items.push(first)?;
-    let start = Listed {
-        items,
-        begun: false,
-        inserted: false,
-    };
-    let (all, rest) = pairs(alloc, scope, role, locals, &of, start, rest)?;
+    let (all, rest) = all_pairs(alloc, scope, role, locals, &of, rest)?;
     let Listed {
         items,
         inserted,

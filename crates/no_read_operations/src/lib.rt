@@ -8,7 +8,7 @@ mod memory;
 mod operands;
 mod simple;
 
-pub use ends::{Ending, Listed, end_mark, unreachable};
+pub use ends::{Ending, Listed, end_mark, with_end};
 pub use flow::{br, phi, ret, switch};
 pub use laws::forms_are_exact;
 pub use memory::{AllocaEnd, address, alloca, load, store};

@@ -5,11 +5,11 @@ ghost use Rattle.no_read_rules.specs.Scope.{Meaning, seen};
 ghost use Rattle.no_read_registers.specs.declared.locals.Locals.{Locals};
 ghost use Rattle.no_read_operations.specs.Folded.{folded_all};
 ghost use Rattle.no_read_operations.specs.Operands.{sized_operand};
-ghost use Rattle.no_read_operations.specs.Ends.{ended, finish, is_comma, list_item, list_attachment, list_step};
-ghost use Rattle.no_read_operations.specs.Memory.{load_parts, volatile_load, load, store_parts, volatile_store, store, address_parts, address, stated_alignment, stated_count, alloca_attachment, count_or_attachment, alloca_step, alloca_start, alloca};
+ghost use Rattle.no_read_operations.specs.Ends.{is_comma, list_item, list_step};
+ghost use Rattle.no_read_operations.specs.Memory.{load_parts, volatile_load, load, store_parts, volatile_store, store, all_indices, address_parts, address, stated_alignment, stated_count, alloca_attachment, count_or_attachment, alloca_step, alloca_start, alloca};
 
-use crate::ends::{Listed, an_alignment, an_attachment, comma_next, end_mark};
-use crate::operands::{a_pointer, an_operand, sized_operand, some_type};
+use crate::ends::{Listed, an_alignment, an_attachment, comma_next, list_attachment};
+use crate::operands::{comma_pointer, sized_operand, some_type, typed_operand};
 use no_ir::{List, Op, Operand, Role};
 use no_lex::{Token, TokenKind};
 use no_read_constants::skip_flags;
@@ -17,104 +17,93 @@ use no_read_registers::Locals;
 use no_read_rules::{Scope, Stop, is_kind, is_word, skip_sign, skip_word};
 use std::alloc::Global;
 
-#[tactic(auto, unfolding(crate::specs::Memory::load_parts, crate::specs::Ends::finish))]
+#[tactic(auto, using(crate::proofs::Grouped::load_is))]
 fn load_parts<'b>(
     alloc: Global,
     scope: &Scope,
-    role: Role,
     locals: &mut Locals,
     volatile: bool,
     tokens: &'b [Token],
-) -> Result<((Op, bool), &'b [Token]), Stop>
-    ensures { Gives (λ x. (x.0, locals.new, x.1.now)) result ((ended (seen scope.now).text role true (load_parts (seen scope.now) volatile)).read locals.old tokens.now) }
+) -> Result<(Op, &'b [Token]), Stop>
+    ensures { Gives (λ x. (x.0, locals.new, x.1.now)) result ((load_parts (seen scope.now) volatile).read locals.old tokens.now) }
 {
     let (of, rest) = some_type(alloc, scope, tokens)?;
-    let rest = skip_sign(scope.text, b",", rest)?;
-    let (place, rest) = a_pointer(alloc, scope, locals, rest)?;
-    let (inserted, rest) = end_mark(scope.text, role, true, rest)?;
-    Ok(((Op::Load(volatile, of, place), inserted), rest))
+    let (place, rest) = comma_pointer(alloc, scope, locals, rest)?;
+    Ok((Op::Load(volatile, of, place), rest))
 }
 
 #[tactic(auto, unfolding(crate::specs::Memory::volatile_load))]
 fn volatile_load<'b>(
     alloc: Global,
     scope: &Scope,
-    role: Role,
     locals: &mut Locals,
     tokens: &'b [Token],
-) -> Result<((Op, bool), &'b [Token]), Stop>
-    ensures { Gives (λ x. (x.0, locals.new, x.1.now)) result ((ended (seen scope.now).text role true (volatile_load (seen scope.now))).read locals.old tokens.now) }
+) -> Result<(Op, &'b [Token]), Stop>
+    ensures { Gives (λ x. (x.0, locals.new, x.1.now)) result ((volatile_load (seen scope.now)).read locals.old tokens.now) }
 {
     let rest = skip_word(scope.text, b"volatile", tokens)?;
-    load_parts(alloc, scope, role, locals, true, rest)
+    load_parts(alloc, scope, locals, true, rest)
 }
 
 /// Behind `load`: an optional `volatile`, and `T, ptr p`.
 pub fn load<'b>(
     alloc: Global,
     scope: &Scope,
-    role: Role,
     locals: &mut Locals,
     tokens: &'b [Token],
-) -> Result<((Op, bool), &'b [Token]), Stop>
-    ensures { Gives (λ x. (x.0, locals.new, x.1.now)) result ((ended (seen scope.now).text role true (load (seen scope.now))).read locals.old tokens.now) }
+) -> Result<(Op, &'b [Token]), Stop>
+    ensures { Gives (λ x. (x.0, locals.new, x.1.now)) result ((load (seen scope.now)).read locals.old tokens.now) }
 {
     match tokens {
         [token, ..] if is_word(scope.text, b"volatile", token) => volatile_load(
-            alloc, scope, role, locals, tokens,
+            alloc, scope, locals, tokens,
         ),
-        _ => load_parts(alloc, scope, role, locals, false, tokens),
+        _ => load_parts(alloc, scope, locals, false, tokens),
     }
 }
 
-#[tactic(auto, unfolding(crate::specs::Memory::store_parts, crate::specs::Ends::finish))]
+#[tactic(auto, using(crate::proofs::Grouped::store_is))]
 fn store_parts<'b>(
     alloc: Global,
     scope: &Scope,
-    role: Role,
     locals: &mut Locals,
     volatile: bool,
     tokens: &'b [Token],
-) -> Result<((Op, bool), &'b [Token]), Stop>
-    ensures { Gives (λ x. (x.0, locals.new, x.1.now)) result ((ended (seen scope.now).text role true (store_parts (seen scope.now) volatile)).read locals.old tokens.now) }
+) -> Result<(Op, &'b [Token]), Stop>
+    ensures { Gives (λ x. (x.0, locals.new, x.1.now)) result ((store_parts (seen scope.now) volatile).read locals.old tokens.now) }
 {
-    let (of, rest) = some_type(alloc, scope, tokens)?;
-    let (value, rest) = an_operand(alloc, scope, locals, &of, rest)?;
-    let rest = skip_sign(scope.text, b",", rest)?;
-    let (place, rest) = a_pointer(alloc, scope, locals, rest)?;
-    let (inserted, rest) = end_mark(scope.text, role, true, rest)?;
-    Ok(((Op::Store(volatile, of, value, place), inserted), rest))
+    let ((of, value), rest) = typed_operand(alloc, scope, locals, tokens)?;
+    let (place, rest) = comma_pointer(alloc, scope, locals, rest)?;
+    Ok((Op::Store(volatile, of, value, place), rest))
 }
 
 #[tactic(auto, unfolding(crate::specs::Memory::volatile_store))]
 fn volatile_store<'b>(
     alloc: Global,
     scope: &Scope,
-    role: Role,
     locals: &mut Locals,
     tokens: &'b [Token],
-) -> Result<((Op, bool), &'b [Token]), Stop>
-    ensures { Gives (λ x. (x.0, locals.new, x.1.now)) result ((ended (seen scope.now).text role true (volatile_store (seen scope.now))).read locals.old tokens.now) }
+) -> Result<(Op, &'b [Token]), Stop>
+    ensures { Gives (λ x. (x.0, locals.new, x.1.now)) result ((volatile_store (seen scope.now)).read locals.old tokens.now) }
 {
     let rest = skip_word(scope.text, b"volatile", tokens)?;
-    store_parts(alloc, scope, role, locals, true, rest)
+    store_parts(alloc, scope, locals, true, rest)
 }
 
 /// Behind `store`: an optional `volatile`, and `T v, ptr p`.
 pub fn store<'b>(
     alloc: Global,
     scope: &Scope,
-    role: Role,
     locals: &mut Locals,
     tokens: &'b [Token],
-) -> Result<((Op, bool), &'b [Token]), Stop>
-    ensures { Gives (λ x. (x.0, locals.new, x.1.now)) result ((ended (seen scope.now).text role true (store (seen scope.now))).read locals.old tokens.now) }
+) -> Result<(Op, &'b [Token]), Stop>
+    ensures { Gives (λ x. (x.0, locals.new, x.1.now)) result ((store (seen scope.now)).read locals.old tokens.now) }
 {
     match tokens {
         [token, ..] if is_word(scope.text, b"volatile", token) => volatile_store(
-            alloc, scope, role, locals, tokens,
+            alloc, scope, locals, tokens,
         ),
-        _ => store_parts(alloc, scope, role, locals, false, tokens),
+        _ => store_parts(alloc, scope, locals, false, tokens),
     }
 }
 
@@ -145,29 +134,6 @@ fn index_item<'b>(
     Ok((listed, rest))
 }
 
-#[tactic(auto, unfolding(crate::specs::Ends::list_attachment))]
-fn index_attachment<'b>(
-    text: &[u8],
-    role: Role,
-    listed: Listed<(u8, Operand)>,
-    tokens: &'b [Token],
-) -> Result<(Listed<(u8, Operand)>, &'b [Token]), Stop>
-    ensures { (s : Locals) → Gives (λ x. (x.0, s, x.1.now)) result ((list_attachment text.now role listed).read s tokens.now) }
-{
-    let Listed {
-        items,
-        inserted,
-        ..
-    } = listed;
-    let (inserted, rest) = an_attachment(text, role, inserted, tokens)?;
-    let listed = Listed {
-        items,
-        begun: true,
-        inserted,
-    };
-    Ok((listed, rest))
-}
-
 #[tactic(auto, unfolding(crate::specs::Ends::list_step))]
 fn index_step<'b>(
     alloc: Global,
@@ -184,7 +150,7 @@ fn index_step<'b>(
         [token, ..] if !listed.begun && !is_kind(TokenKind::Meta, token) => index_item(
             alloc, scope, locals, listed, rest,
         ),
-        _ => index_attachment(scope.text, role, listed, rest),
+        _ => list_attachment(scope.text, role, listed, rest),
     }
 }
 
@@ -208,7 +174,30 @@ fn indices<'b>(
     Ok((listed, rest))
 }
 
-#[tactic(auto, unfolding(crate::specs::Memory::address_parts))]
+/// Behind a comma: at least one index, and attachments.
+#[tactic(auto, unfolding(crate::specs::Memory::all_indices))]
+fn all_indices<'b>(
+    alloc: Global,
+    scope: &Scope,
+    role: Role,
+    locals: &mut Locals,
+    tokens: &'b [Token],
+) -> Result<(Listed<(u8, Operand)>, &'b [Token]), Stop>
+    ensures { Gives (λ x. (x.0, locals.new, x.1.now)) result ((all_indices (seen scope.now) role).read locals.old tokens.now) }
+{
+    let rest = skip_sign(scope.text, b",", tokens)?;
+    let (first, rest) = sized_operand(alloc, scope, locals, rest)?;
+    let mut items = List::new(alloc);
+    items.push(first)?;
+    let start = Listed {
+        items,
+        begun: false,
+        inserted: false,
+    };
+    indices(alloc, scope, role, locals, start, rest)
+}
+
+#[tactic(auto, using(crate::proofs::Grouped::address_is))]
 fn address_parts<'b>(
     alloc: Global,
     scope: &Scope,
@@ -219,18 +208,8 @@ fn address_parts<'b>(
     ensures { Gives (λ x. (x.0, locals.new, x.1.now)) result ((address_parts (seen scope.now) role).read locals.old tokens.now) }
 {
     let (base, rest) = some_type(alloc, scope, tokens)?;
-    let rest = skip_sign(scope.text, b",", rest)?;
-    let (place, rest) = a_pointer(alloc, scope, locals, rest)?;
-    let rest = skip_sign(scope.text, b",", rest)?;
-    let (first, rest) = sized_operand(alloc, scope, locals, rest)?;
-    let mut items = List::new(alloc);
-    items.push(first)?;
-    let start = Listed {
-        items,
-        begun: false,
-        inserted: false,
-    };
-    let (all, rest) = indices(alloc, scope, role, locals, start, rest)?;
+    let (place, rest) = comma_pointer(alloc, scope, locals, rest)?;
+    let (all, rest) = all_indices(alloc, scope, role, locals, rest)?;
     let Listed {
         items,
         inserted,

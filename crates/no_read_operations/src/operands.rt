@@ -6,13 +6,15 @@ ghost use Rattle.no_read_constants.specs.Skipped.{skip_while};
 ghost use Rattle.no_read_registers.specs.declared.locals.Locals.{Locals};
 ghost use Rattle.no_read_rules.specs.Rules.{passed, valued, checked};
 ghost use Rattle.no_read_rules.specs.Types.{a_type, must_be};
-ghost use Rattle.no_read_operations.specs.Operands.{DEPTH, register_operand, const_operand, an_operand, a_pointer, sized_operand, is_flag_word};
+ghost use Rattle.no_read_operations.specs.Operands.{DEPTH, register_operand, const_operand, an_operand, a_pointer, sized_operand, typed_operand, two_operands, bit_operand, comma_pointer, comma_label, is_flag_word};
 
 use no_ir::{Operand, Ty};
 use no_lex::{Token, TokenKind};
 use no_read_constants::{a_const, width_of};
-use no_read_registers::{Locals, a_register};
-use no_read_rules::{Scope, Stop, a_type, is_kind, is_sign, is_word, same_type, skip_word, syntax};
+use no_read_registers::{Locals, a_label, a_register};
+use no_read_rules::{
+    Scope, Stop, a_type, is_kind, is_word, same_type, skip_sign, skip_word, syntax,
+};
 use std::alloc::Global;
 
 /// How many brackets of types and constants may stand one in another.
@@ -93,7 +95,7 @@ pub fn an_operand<'b>(
 
 /// The pointer type, and an operand at it.
 #[tactic(auto, unfolding(crate::specs::Operands::a_pointer))]
-pub(crate) fn a_pointer<'b>(
+fn a_pointer<'b>(
     alloc: Global,
     scope: &Scope,
     locals: &mut Locals,
@@ -118,6 +120,80 @@ pub(crate) fn sized_operand<'b>(
     let (width, rest) = width_of(scope.text, tokens)?;
     let (value, rest) = an_operand(alloc, scope, locals, &Ty::Int(width), rest)?;
     Ok(((width, value), rest))
+}
+
+/// A type, and an operand at it.
+#[tactic(auto, unfolding(crate::specs::Operands::typed_operand))]
+pub(crate) fn typed_operand<'b>(
+    alloc: Global,
+    scope: &Scope,
+    locals: &mut Locals,
+    tokens: &'b [Token],
+) -> Result<((Ty, Operand), &'b [Token]), Stop>
+    ensures { Gives (λ x. (x.0, locals.new, x.1.now)) result ((typed_operand (seen scope.now)).read locals.old tokens.now) }
+{
+    let (of, rest) = some_type(alloc, scope, tokens)?;
+    let (value, rest) = an_operand(alloc, scope, locals, &of, rest)?;
+    Ok(((of, value), rest))
+}
+
+/// Two operands at one type, with a comma between them.
+#[tactic(auto, unfolding(crate::specs::Operands::two_operands))]
+pub(crate) fn two_operands<'b>(
+    alloc: Global,
+    scope: &Scope,
+    locals: &mut Locals,
+    of: &Ty,
+    tokens: &'b [Token],
+) -> Result<((Operand, Operand), &'b [Token]), Stop>
+    ensures { Gives (λ x. (x.0, locals.new, x.1.now)) result ((two_operands (seen scope.now) of.now).read locals.old tokens.now) }
+{
+    let (first, rest) = an_operand(alloc, scope, locals, of, tokens)?;
+    let rest = skip_sign(scope.text, b",", rest)?;
+    let (second, rest) = an_operand(alloc, scope, locals, of, rest)?;
+    Ok(((first, second), rest))
+}
+
+/// A bit, as conditions are.
+#[tactic(auto, unfolding(crate::specs::Operands::bit_operand))]
+pub(crate) fn bit_operand<'b>(
+    alloc: Global,
+    scope: &Scope,
+    locals: &mut Locals,
+    tokens: &'b [Token],
+) -> Result<(Operand, &'b [Token]), Stop>
+    ensures { Gives (λ x. (x.0, locals.new, x.1.now)) result ((bit_operand (seen scope.now)).read locals.old tokens.now) }
+{
+    let rest = skip_word(scope.text, b"i1", tokens)?;
+    an_operand(alloc, scope, locals, &Ty::Int(1), rest)
+}
+
+/// Behind a comma: an address.
+#[tactic(auto, unfolding(crate::specs::Operands::comma_pointer))]
+pub(crate) fn comma_pointer<'b>(
+    alloc: Global,
+    scope: &Scope,
+    locals: &mut Locals,
+    tokens: &'b [Token],
+) -> Result<(Operand, &'b [Token]), Stop>
+    ensures { Gives (λ x. (x.0, locals.new, x.1.now)) result ((comma_pointer (seen scope.now)).read locals.old tokens.now) }
+{
+    let rest = skip_sign(scope.text, b",", tokens)?;
+    a_pointer(alloc, scope, locals, rest)
+}
+
+/// Behind a comma: a label.
+#[tactic(auto, unfolding(crate::specs::Operands::comma_label))]
+pub(crate) fn comma_label<'b>(
+    alloc: Global,
+    text: &[u8],
+    locals: &mut Locals,
+    tokens: &'b [Token],
+) -> Result<(u32, &'b [Token]), Stop>
+    ensures { Gives (λ x. (x.0, locals.new, x.1.now)) result ((comma_label text.now).read locals.old tokens.now) }
+{
+    let rest = skip_sign(text, b",", tokens)?;
+    a_label(alloc, text, locals, rest)
 }
 
 /// Words without an effect that may stand behind the first word of a form.

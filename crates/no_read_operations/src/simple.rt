@@ -2,12 +2,15 @@ ghost use Rattle.std.specs.Prelude.{◌≡◌};
 ghost use Rattle.no_read_rules.specs.Rules.{Gives, valued, plain};
 ghost use Rattle.no_read_rules.specs.Scope.{Meaning, seen};
 ghost use Rattle.std.specs.Prelude.{true, false};
-ghost use Rattle.no_read_operations.specs.Ends.{ended, finish};
+ghost use Rattle.no_read_registers.specs.declared.locals.Locals.{Locals};
+ghost use Rattle.no_read_operations.specs.Operands.{to_type, comma_same};
 ghost use Rattle.no_read_operations.specs.Simple.{binary_flags, binary_parts, binary, cast_flags, cast_parts, cast_form, pred_word, pred_of, compare_parts, compare, freeze, select};
 
-use crate::ends::end_mark;
-use crate::operands::{Flags, an_operand, skip_flag_words, some_type, this_type};
-use no_ir::{BinOp, CastOp, Op, Pred, Role, Ty};
+use crate::operands::{
+    Flags, an_operand, bit_operand, skip_flag_words, some_type, this_type, two_operands,
+    typed_operand,
+};
+use no_ir::{BinOp, CastOp, Op, Operand, Pred, Ty};
 use no_lex::{Token, TokenKind};
 use no_read_constants::width_of;
 use no_read_registers::Locals;
@@ -25,38 +28,33 @@ fn binary_flags(op: BinOp) -> Flags
     }
 }
 
-#[tactic(auto, unfolding(crate::specs::Simple::binary_parts, crate::specs::Ends::finish))]
+#[tactic(auto, using(crate::proofs::Grouped::binary_is))]
 fn binary_parts<'b>(
     alloc: Global,
     scope: &Scope,
-    role: Role,
     locals: &mut Locals,
     op: BinOp,
     tokens: &'b [Token],
-) -> Result<((Op, bool), &'b [Token]), Stop>
-    ensures { Gives (λ x. (x.0, locals.new, x.1.now)) result ((ended (seen scope.now).text role false (binary_parts (seen scope.now) op)).read locals.old tokens.now) }
+) -> Result<(Op, &'b [Token]), Stop>
+    ensures { Gives (λ x. (x.0, locals.new, x.1.now)) result ((binary_parts (seen scope.now) op).read locals.old tokens.now) }
 {
     let (width, rest) = width_of(scope.text, tokens)?;
-    let (first, rest) = an_operand(alloc, scope, locals, &Ty::Int(width), rest)?;
-    let rest = skip_sign(scope.text, b",", rest)?;
-    let (second, rest) = an_operand(alloc, scope, locals, &Ty::Int(width), rest)?;
-    let (inserted, rest) = end_mark(scope.text, role, false, rest)?;
-    Ok(((Op::Binary(op, width, first, second), inserted), rest))
+    let ((first, second), rest) = two_operands(alloc, scope, locals, &Ty::Int(width), rest)?;
+    Ok((Op::Binary(op, width, first, second), rest))
 }
 
 /// A binary operation behind its operator: `iN a, b`.
 pub fn binary<'b>(
     alloc: Global,
     scope: &Scope,
-    role: Role,
     locals: &mut Locals,
     op: BinOp,
     tokens: &'b [Token],
-) -> Result<((Op, bool), &'b [Token]), Stop>
-    ensures { Gives (λ x. (x.0, locals.new, x.1.now)) result ((ended (seen scope.now).text role false (binary (seen scope.now) op)).read locals.old tokens.now) }
+) -> Result<(Op, &'b [Token]), Stop>
+    ensures { Gives (λ x. (x.0, locals.new, x.1.now)) result ((binary (seen scope.now) op).read locals.old tokens.now) }
 {
     let rest = skip_flag_words(scope.text, binary_flags(op), tokens);
-    binary_parts(alloc, scope, role, locals, op, rest)
+    binary_parts(alloc, scope, locals, op, rest)
 }
 
 fn cast_flags(op: CastOp) -> Flags
@@ -69,38 +67,42 @@ fn cast_flags(op: CastOp) -> Flags
     }
 }
 
-#[tactic(auto, unfolding(crate::specs::Simple::cast_parts, crate::specs::Ends::finish))]
+/// Behind the word `to`: a type.
+#[tactic(auto, unfolding(crate::specs::Operands::to_type))]
+fn to_type<'b>(alloc: Global, scope: &Scope, tokens: &'b [Token]) -> Result<(Ty, &'b [Token]), Stop>
+    ensures { (s : Locals) → Gives (λ x. (x.0, s, x.1.now)) result ((to_type (seen scope.now)).read s tokens.now) }
+{
+    let rest = skip_word(scope.text, b"to", tokens)?;
+    some_type(alloc, scope, rest)
+}
+
+#[tactic(auto, using(crate::proofs::Grouped::cast_is))]
 fn cast_parts<'b>(
     alloc: Global,
     scope: &Scope,
-    role: Role,
     locals: &mut Locals,
     op: CastOp,
     tokens: &'b [Token],
-) -> Result<((Op, bool), &'b [Token]), Stop>
-    ensures { Gives (λ x. (x.0, locals.new, x.1.now)) result ((ended (seen scope.now).text role false (cast_parts (seen scope.now) op)).read locals.old tokens.now) }
+) -> Result<(Op, &'b [Token]), Stop>
+    ensures { Gives (λ x. (x.0, locals.new, x.1.now)) result ((cast_parts (seen scope.now) op).read locals.old tokens.now) }
 {
-    let (from, rest) = some_type(alloc, scope, tokens)?;
-    let (value, rest) = an_operand(alloc, scope, locals, &from, rest)?;
-    let rest = skip_word(scope.text, b"to", rest)?;
-    let (target, rest) = some_type(alloc, scope, rest)?;
-    let (inserted, rest) = end_mark(scope.text, role, false, rest)?;
-    Ok(((Op::Cast(op, from, value, target), inserted), rest))
+    let ((from, value), rest) = typed_operand(alloc, scope, locals, tokens)?;
+    let (target, rest) = to_type(alloc, scope, rest)?;
+    Ok((Op::Cast(op, from, value, target), rest))
 }
 
 /// A conversion behind its operator: `T a to U`.
 pub fn cast_form<'b>(
     alloc: Global,
     scope: &Scope,
-    role: Role,
     locals: &mut Locals,
     op: CastOp,
     tokens: &'b [Token],
-) -> Result<((Op, bool), &'b [Token]), Stop>
-    ensures { Gives (λ x. (x.0, locals.new, x.1.now)) result ((ended (seen scope.now).text role false (cast_form (seen scope.now) op)).read locals.old tokens.now) }
+) -> Result<(Op, &'b [Token]), Stop>
+    ensures { Gives (λ x. (x.0, locals.new, x.1.now)) result ((cast_form (seen scope.now) op).read locals.old tokens.now) }
 {
     let rest = skip_flag_words(scope.text, cast_flags(op), tokens);
-    cast_parts(alloc, scope, role, locals, op, rest)
+    cast_parts(alloc, scope, locals, op, rest)
 }
 
 fn pred_word(word: &[u8]) -> Result<Pred, Flaw>
@@ -135,75 +137,77 @@ fn pred_of<'b>(text: &[u8], tokens: &'b [Token]) -> Result<(Pred, &'b [Token]), 
     }
 }
 
-#[tactic(auto, unfolding(crate::specs::Simple::compare_parts, crate::specs::Ends::finish))]
+#[tactic(auto, using(crate::proofs::Grouped::compare_is))]
 fn compare_parts<'b>(
     alloc: Global,
     scope: &Scope,
-    role: Role,
     locals: &mut Locals,
     tokens: &'b [Token],
-) -> Result<((Op, bool), &'b [Token]), Stop>
-    ensures { Gives (λ x. (x.0, locals.new, x.1.now)) result ((ended (seen scope.now).text role false (compare_parts (seen scope.now))).read locals.old tokens.now) }
+) -> Result<(Op, &'b [Token]), Stop>
+    ensures { Gives (λ x. (x.0, locals.new, x.1.now)) result ((compare_parts (seen scope.now)).read locals.old tokens.now) }
 {
     let (pred, rest) = pred_of(scope.text, tokens)?;
     let (of, rest) = some_type(alloc, scope, rest)?;
-    let (first, rest) = an_operand(alloc, scope, locals, &of, rest)?;
-    let rest = skip_sign(scope.text, b",", rest)?;
-    let (second, rest) = an_operand(alloc, scope, locals, &of, rest)?;
-    let (inserted, rest) = end_mark(scope.text, role, false, rest)?;
-    Ok(((Op::Compare(pred, of, first, second), inserted), rest))
+    let ((first, second), rest) = two_operands(alloc, scope, locals, &of, rest)?;
+    Ok((Op::Compare(pred, of, first, second), rest))
 }
 
 /// A comparison behind `icmp`: `P T a, b`.
 pub fn compare<'b>(
     alloc: Global,
     scope: &Scope,
-    role: Role,
     locals: &mut Locals,
     tokens: &'b [Token],
-) -> Result<((Op, bool), &'b [Token]), Stop>
-    ensures { Gives (λ x. (x.0, locals.new, x.1.now)) result ((ended (seen scope.now).text role false (compare (seen scope.now))).read locals.old tokens.now) }
+) -> Result<(Op, &'b [Token]), Stop>
+    ensures { Gives (λ x. (x.0, locals.new, x.1.now)) result ((compare (seen scope.now)).read locals.old tokens.now) }
 {
     let rest = skip_flag_words(scope.text, Flags::SameSign, tokens);
-    compare_parts(alloc, scope, role, locals, rest)
+    compare_parts(alloc, scope, locals, rest)
 }
 
 /// Behind `freeze`: `T a`.
-#[tactic(auto, unfolding(crate::specs::Simple::freeze, crate::specs::Ends::finish))]
+#[tactic(auto, using(crate::proofs::Grouped::freeze_is))]
 pub fn freeze<'b>(
     alloc: Global,
     scope: &Scope,
-    role: Role,
     locals: &mut Locals,
     tokens: &'b [Token],
-) -> Result<((Op, bool), &'b [Token]), Stop>
-    ensures { Gives (λ x. (x.0, locals.new, x.1.now)) result ((ended (seen scope.now).text role false (freeze (seen scope.now))).read locals.old tokens.now) }
+) -> Result<(Op, &'b [Token]), Stop>
+    ensures { Gives (λ x. (x.0, locals.new, x.1.now)) result ((freeze (seen scope.now)).read locals.old tokens.now) }
 {
-    let (of, rest) = some_type(alloc, scope, tokens)?;
-    let (value, rest) = an_operand(alloc, scope, locals, &of, rest)?;
-    let (inserted, rest) = end_mark(scope.text, role, false, rest)?;
-    Ok(((Op::Freeze(of, value), inserted), rest))
+    let ((of, value), rest) = typed_operand(alloc, scope, locals, tokens)?;
+    Ok((Op::Freeze(of, value), rest))
+}
+
+/// Behind a comma: the second operand of a choice, with its type, which has to be that of the first.
+#[tactic(auto, unfolding(crate::specs::Operands::comma_same))]
+fn comma_same<'b>(
+    alloc: Global,
+    scope: &Scope,
+    locals: &mut Locals,
+    of: &Ty,
+    tokens: &'b [Token],
+) -> Result<(Operand, &'b [Token]), Stop>
+    ensures { Gives (λ x. (x.0, locals.new, x.1.now)) result ((comma_same (seen scope.now) of.now).read locals.old tokens.now) }
+{
+    let rest = skip_sign(scope.text, b",", tokens)?;
+    let rest = this_type(alloc, scope, of, rest)?;
+    an_operand(alloc, scope, locals, of, rest)
 }
 
 /// Behind `select`: `i1 c, T a, T b`.
-#[tactic(auto, unfolding(crate::specs::Simple::select, crate::specs::Ends::finish))]
+#[tactic(auto, using(crate::proofs::Grouped::select_is))]
 pub fn select<'b>(
     alloc: Global,
     scope: &Scope,
-    role: Role,
     locals: &mut Locals,
     tokens: &'b [Token],
-) -> Result<((Op, bool), &'b [Token]), Stop>
-    ensures { Gives (λ x. (x.0, locals.new, x.1.now)) result ((ended (seen scope.now).text role false (select (seen scope.now))).read locals.old tokens.now) }
+) -> Result<(Op, &'b [Token]), Stop>
+    ensures { Gives (λ x. (x.0, locals.new, x.1.now)) result ((select (seen scope.now)).read locals.old tokens.now) }
 {
-    let rest = skip_word(scope.text, b"i1", tokens)?;
-    let (condition, rest) = an_operand(alloc, scope, locals, &Ty::Int(1), rest)?;
+    let (condition, rest) = bit_operand(alloc, scope, locals, tokens)?;
     let rest = skip_sign(scope.text, b",", rest)?;
-    let (of, rest) = some_type(alloc, scope, rest)?;
-    let (first, rest) = an_operand(alloc, scope, locals, &of, rest)?;
-    let rest = skip_sign(scope.text, b",", rest)?;
-    let rest = this_type(alloc, scope, &of, rest)?;
-    let (second, rest) = an_operand(alloc, scope, locals, &of, rest)?;
-    let (inserted, rest) = end_mark(scope.text, role, false, rest)?;
-    Ok(((Op::Select(condition, of, first, second), inserted), rest))
+    let ((of, first), rest) = typed_operand(alloc, scope, locals, rest)?;
+    let (second, rest) = comma_same(alloc, scope, locals, &of, rest)?;
+    Ok((Op::Select(condition, of, first, second), rest))
 }

@@ -1,4 +1,4 @@
-use Rattle.no_read_modules.proofs.ModuleLaws.{read_is_meant}
+use Rattle.no_read_toplevel.proofs.ModuleLaws.{read_is_meant}
 use Rattle.no_read.proofs.ReadingLaws.{reads_module}
 use Rattle.no_read.proofs.reading.read.Goals as goal
 

@@ -1,9 +1,0 @@
-use Rattle.no_back.proofs.Assembly.{read_back}
-use Rattle.no_back.proofs.Structs.{lifted_fit}
-use Rattle.no_back.proofs.printed_modules_read_back.Goals as goal
-
-pub returns : goal.returns
-returns c =
-    let types = c.definitions_lift_again.ensures in
-    let names = c.names_are_the_modules.ensures in
-    read_back c.a_module_lexes.ensures types.again types.spelled lifted_fit c.modules_mean_again.ensures names.globals names.functions

@@ -1,0 +1,10 @@
+pub mod Attributes
+pub mod Constants
+pub mod Folds
+pub mod Forms
+pub mod Functions
+pub mod Instructions
+pub mod Lists
+pub mod Modules
+pub mod Prefix
+pub mod Whole

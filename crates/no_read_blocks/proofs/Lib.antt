@@ -1,3 +1,0 @@
-pub mod BlockLaws
-pub mod BodyLaws
-pub mod InstrApart

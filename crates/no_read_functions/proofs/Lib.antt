@@ -1,0 +1,6 @@
+pub mod BlockLaws
+pub mod BodyLaws
+pub mod ClosedLists
+pub mod FunctionLaws
+pub mod HeadLaws
+pub mod InstrApart

@@ -1,2 +1,0 @@
-pub mod ClosedLists
-pub mod HeadLaws

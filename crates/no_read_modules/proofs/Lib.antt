@@ -1,6 +1,0 @@
-pub mod FunctionLaws
-pub mod ManyTops
-pub mod ModuleLaws
-pub mod TopForms
-pub mod TopsLaws
-pub mod WrittenLaws

@@ -1,8 +1,0 @@
-use Rattle.no_read_modules.proofs.ModuleLaws.{meant_is_read, at_most_one}
-use Rattle.no_read_modules.proofs.modules.modules_are_exact.Goals as goal
-
-pub returns-clause-meant : goal.returns-clause-meant
-returns-clause-meant c = meant_is_read
-
-pub returns-clause-only : goal.returns-clause-only
-returns-clause-only c = at_most_one

@@ -1,5 +1,0 @@
-use Rattle.no_reinstr.proofs.BodyAgain.{body_again}
-use Rattle.no_reinstr.proofs.bodies.bodies_mean_again.Goals as goal
-
-pub returns : goal.returns
-returns c = body_again

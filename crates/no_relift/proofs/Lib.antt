@@ -1,9 +1,0 @@
-pub mod Second
-pub mod Untyped
-pub mod First
-pub mod Defined
-pub mod Orders
-pub mod Picks
-pub mod Endings
-pub mod Renaming
-pub mod Renumbering

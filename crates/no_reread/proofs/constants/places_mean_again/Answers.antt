@@ -1,5 +1,0 @@
-use Rattle.no_reread.proofs.Places.{place_again}
-use Rattle.no_reread.proofs.constants.places_mean_again.Goals as goal
-
-pub returns : goal.returns
-returns c m text depth gap tokens place bytes r = (place_again m text bytes depth gap tt tt tt tokens place tt r).2
