@@ -288,17 +288,17 @@ module _ (p : Program) (formed : IsTrue (is_formed p.layout)) (code : Code) (is 
     still u = record { stands = untouched_stands p at base sp after slots new frames now s u st; bytes = refl }
 
     pub call_turned : (result : Turn) → Called result code (is_declared known.function) own.home callee.home at base into from to slots new frames now sp after → Turned p result at base after new now held byte byte s
-    call_turned (turn.Halt stop.Outside) c = (record { instr = cur.instr; is = cur.instr_is; result = known.t; callee = known.callee; arguments = known.given'; calls = known.calls }, still c.1)
-    call_turned (turn.Halt stop.Grow) c = (tt, still c)
-    call_turned (turn.Halt stop.NoMemory) c = (tt, still c)
-    call_turned (turn.Halt (stop.Trapped t)) c =
+    call_turned (turn.Halt _ _ stop.Outside) c = (record { instr = cur.instr; is = cur.instr_is; result = known.t; callee = known.callee; arguments = known.given'; calls = known.calls }, still c.1)
+    call_turned (turn.Halt _ _ stop.Grow) c = (tt, still c)
+    call_turned (turn.Halt _ _ stop.NoMemory) c = (tt, still c)
+    call_turned (turn.Halt _ _ (stop.Trapped t)) c =
         let low : nat_lt s.sp (stack_start + call_room) ≡ true = ap (λ (k : ℕ). nat_lt k (stack_start + call_room)) st.sp_is ∙ lt-ltb sp (stack_start + call_room) c.1 in (
           entered_row c.0 ∙ ap (λ (b : Bool). if b then trapping StackOverflow else called f known.numbers (s.sp - call_room) s (entry_frame f known.function known.numbers s.sp)) low ∙ ap trapping (sym c.2),
           still c.3,
         )
-    call_turned (turn.Halt (stop.WantPage q)) c = absurd c
-    call_turned (turn.Halt (stop.Left v)) c = absurd c
-    call_turned (turn.Halt stop.Spent) c = absurd c
+    call_turned (turn.Halt _ _ (stop.WantPage q)) c = absurd c
+    call_turned (turn.Halt _ _ (stop.Left v)) c = absurd c
+    call_turned (turn.Halt _ _ stop.Spent) c = absurd c
     call_turned (turn.On start above) c =
         let high : nat_lt s.sp (stack_start + call_room) ≡ false = ap (λ (k : ℕ). nat_lt k (stack_start + call_room)) st.sp_is ∙ le-ltb sp (stack_start + call_room) c.high in
         let row_is : row p s ≡ called f known.numbers (s.sp - call_room) s (entry_frame f known.function known.numbers s.sp) =

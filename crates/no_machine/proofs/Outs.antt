@@ -65,15 +65,15 @@ module _ (p : Program) (s : State) (at base sp : ℕ) (a : Around) (more : List 
         agrees = subst (λ (f : ℕ → ℕ). Agrees a.held f t.state.byte) (sym calm.bytes) t.agrees;
         present = subst (λ (r : Row). AreHeld a.held (needed r)) (sym same) t.present;
       }
-  turn_outs (turn.Halt stop.Grow) sp' new now t = record { stands = t.1.stands; calm = calm }
-  turn_outs (turn.Halt stop.NoMemory) sp' new now t = record { stands = t.1.stands; calm = calm }
-  turn_outs (turn.Halt (stop.Trapped trap)) sp' new now t =
+  turn_outs (turn.Halt _ _ stop.Grow) sp' new now t = record { stands = t.1.stands; calm = calm }
+  turn_outs (turn.Halt _ _ stop.NoMemory) sp' new now t = record { stands = t.1.stands; calm = calm }
+  turn_outs (turn.Halt _ _ (stop.Trapped trap)) sp' new now t =
       let e : affordable left (row p s) ≡ trapping trap = ap (affordable left) t.0 ∙ afford left (trapping trap) refl some in
       (ap (λ (r : Row). r.next) e, ap (λ (r : Row). r.cost) e, subst (λ (r : Row). AreHeld a.held r.sought) (sym e) (none_needed a.held), record { stands = t.1.stands; calm = calm })
-  turn_outs (turn.Halt (stop.WantPage page)) sp' new now t = record { stands = t.1.stands; calm = calm }
-  turn_outs (turn.Halt (stop.Left v)) sp' new now t = record { stands = t.1.stands; calm = calm }
-  turn_outs (turn.Halt stop.Outside) sp' new now t = record { stands = t.1.stands; calm = calm }
-  turn_outs (turn.Halt stop.Spent) sp' new now t = record { stands = t.1.stands; calm = calm }
+  turn_outs (turn.Halt _ _ (stop.WantPage page)) sp' new now t = record { stands = t.1.stands; calm = calm }
+  turn_outs (turn.Halt _ _ (stop.Left v)) sp' new now t = record { stands = t.1.stands; calm = calm }
+  turn_outs (turn.Halt _ _ stop.Outside) sp' new now t = record { stands = t.1.stands; calm = calm }
+  turn_outs (turn.Halt _ _ stop.Spent) sp' new now t = record { stands = t.1.stands; calm = calm }
 
 -- ---- externals that give a value at once
 

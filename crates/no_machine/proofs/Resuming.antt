@@ -135,15 +135,15 @@ module _ (p : Program) (s : State) (at base sp : ℕ) (slots : List ℕ) (frames
   turned_in : (callers : List Frame) → AreWaiting p s.frame.saved callers frames (take base slots) → row p s ≡ returned p value callers s → Live (returned p value callers s)
       → (new : List ℕ) (now : List Saved) (after : ℕ) (result : Turn) → GoesBack result value slots new frames now sp after → Turned p result at base after new now held byte byte s
   turned_in [] waits e live new now after (turn.On next there) goes = absurd (snoc_some now goes.0 (sym waits ∙ goes.1))
-  turned_in [] waits e live new now after (turn.Halt (stop.Left v)) goes =
+  turned_in [] waits e live new now after (turn.Halt _ _ (stop.Left v)) goes =
       (e ∙ ap (λ (o : Option ℕ). returned p o [] s) (sym goes.0), record { stands = untouched_stands p at base sp after slots new frames now s goes.2 st; bytes = refl })
-  turned_in (c ∷ callers) waits e live new now after (turn.Halt (stop.Left v)) goes = absurd (snoc_some waits.0 waits.1 (sym goes.1 ∙ waits.2))
-  turned_in callers waits e live new now after (turn.Halt stop.Grow) goes = absurd goes
-  turned_in callers waits e live new now after (turn.Halt stop.NoMemory) goes = absurd goes
-  turned_in callers waits e live new now after (turn.Halt (stop.Trapped t)) goes = absurd goes
-  turned_in callers waits e live new now after (turn.Halt (stop.WantPage q)) goes = absurd goes
-  turned_in callers waits e live new now after (turn.Halt stop.Outside) goes = absurd goes
-  turned_in callers waits e live new now after (turn.Halt stop.Spent) goes = absurd goes
+  turned_in (c ∷ callers) waits e live new now after (turn.Halt _ _ (stop.Left v)) goes = absurd (snoc_some waits.0 waits.1 (sym goes.1 ∙ waits.2))
+  turned_in callers waits e live new now after (turn.Halt _ _ stop.Grow) goes = absurd goes
+  turned_in callers waits e live new now after (turn.Halt _ _ stop.NoMemory) goes = absurd goes
+  turned_in callers waits e live new now after (turn.Halt _ _ (stop.Trapped t)) goes = absurd goes
+  turned_in callers waits e live new now after (turn.Halt _ _ (stop.WantPage q)) goes = absurd goes
+  turned_in callers waits e live new now after (turn.Halt _ _ stop.Outside) goes = absurd goes
+  turned_in callers waits e live new now after (turn.Halt _ _ stop.Spent) goes = absurd goes
   turned_in (c ∷ callers) waits e live new now after (turn.On next there) goes =
       let w = waits.1 in
       let same = snoc_same now waits.0 goes.0 w (sym goes.1 ∙ waits.2) in

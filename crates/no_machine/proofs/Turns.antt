@@ -161,10 +161,10 @@ module _ (a : Accepted) (addresses : List ℕ) (regions : Regions) (code : Code)
   abbrev pub turn_of : Did → ℕ → ℕ → Turn
   turn_of did.Next at base = turn.On (at + 1) base
   turn_of (did.To target) at base = turn.On target base
-  turn_of (did.Trapped t) at base = turn.Halt (stop.Trapped t)
-  turn_of (did.WantPage page) at base = turn.Halt (stop.WantPage page)
-  turn_of did.NoMemory at base = turn.Halt stop.NoMemory
-  turn_of _ at base = turn.Halt stop.Outside
+  turn_of (did.Trapped t) at base = turn.Halt 0 0 (stop.Trapped t)
+  turn_of (did.WantPage page) at base = turn.Halt 0 0 (stop.WantPage page)
+  turn_of did.NoMemory at base = turn.Halt 0 0 stop.NoMemory
+  turn_of _ at base = turn.Halt 0 0 stop.Outside
 
   module _ (at base sp : ℕ) (slots : List ℕ) (frames : List Saved) (held : ℕ → Bool) (byte : ℕ → ℕ) (c : Cell) (cell_at : slice_get cells at ≡ Some c) (new : List ℕ) (after : ℕ → ℕ) (sp_after : ℕ) (below : take base new ≡ take base slots) (long : length new ≡ length slots) where
     abbrev Acts : Did → Type 0

@@ -66,11 +66,11 @@ pub record HasCalled (code : Code) (outside : Bool) (home callee : Home) (at bas
 -- what a call did, by its answer
 abbrev pub Called : Turn → Code → Bool → Home → Home → ℕ → ℕ → ℕ → ℕ → ℕ → List ℕ → List ℕ → List Saved → List Saved → ℕ → ℕ → Type 0
 Called (turn.On start above) code outside home callee at base into from to slots new frames now sp after = HasCalled code outside home callee at base into from to start above slots new frames now sp after
-Called (turn.Halt stop.Outside) code outside home callee at base into from to slots new frames now sp after = (outside ≡ true) × IsUntouched slots new frames now sp after
-Called (turn.Halt (stop.Trapped t)) code outside home callee at base into from to slots new frames now sp after = (outside ≡ false) × (sp < stack_start + call_room) × (t ≡ StackOverflow) × IsUntouched slots new frames now sp after
-Called (turn.Halt stop.Grow) code outside home callee at base into from to slots new frames now sp after = IsUntouched slots new frames now sp after
-Called (turn.Halt stop.NoMemory) code outside home callee at base into from to slots new frames now sp after = IsUntouched slots new frames now sp after
-Called (turn.Halt _) code outside home callee at base into from to slots new frames now sp after = ⊥
+Called (turn.Halt _ _ stop.Outside) code outside home callee at base into from to slots new frames now sp after = (outside ≡ true) × IsUntouched slots new frames now sp after
+Called (turn.Halt _ _ (stop.Trapped t)) code outside home callee at base into from to slots new frames now sp after = (outside ≡ false) × (sp < stack_start + call_room) × (t ≡ StackOverflow) × IsUntouched slots new frames now sp after
+Called (turn.Halt _ _ stop.Grow) code outside home callee at base into from to slots new frames now sp after = IsUntouched slots new frames now sp after
+Called (turn.Halt _ _ stop.NoMemory) code outside home callee at base into from to slots new frames now sp after = IsUntouched slots new frames now sp after
+Called (turn.Halt _ _ _) code outside home callee at base into from to slots new frames now sp after = ⊥
 
 -- ---- returns
 
@@ -86,5 +86,5 @@ given_at (Some n) place slots = slice_set slots place n
 -- what a return did, by its answer
 abbrev pub GoesBack : Turn → Option ℕ → List ℕ → List ℕ → List Saved → List Saved → ℕ → ℕ → Type 0
 GoesBack (turn.On next base) value slots new frames now sp after = (w : Saved) × (frames ≡ now ++ w ∷ []) × (next ≡ w.next) × (base ≡ w.base) × (new ≡ given_at value (w.base + w.into) slots) × (after ≡ w.sp)
-GoesBack (turn.Halt (stop.Left v)) value slots new frames now sp after = (v ≡ value) × (frames ≡ []) × IsUntouched slots new frames now sp after
-GoesBack (turn.Halt _) value slots new frames now sp after = ⊥
+GoesBack (turn.Halt _ _ (stop.Left v)) value slots new frames now sp after = (v ≡ value) × (frames ≡ []) × IsUntouched slots new frames now sp after
+GoesBack (turn.Halt _ _ _) value slots new frames now sp after = ⊥

@@ -142,9 +142,9 @@ pub record IsReadyInvoke (code : Code) (declared : List Bool) (externals : List 
 -- what comes of a call of a defined function
 abbrev pub out_of_turn : Turn → Out
 out_of_turn (turn.On at base) = out.On at base 1
-out_of_turn (turn.Halt stop.Grow) = out.Grow
-out_of_turn (turn.Halt (stop.Trapped t)) = out.Trapped t
-out_of_turn (turn.Halt _) = out.NoMemory
+out_of_turn (turn.Halt _ _ stop.Grow) = out.Grow
+out_of_turn (turn.Halt _ _ (stop.Trapped t)) = out.Trapped t
+out_of_turn (turn.Halt _ _ _) = out.NoMemory
 
 -- slots, what is kept of callers and the stack pointer, before and after
 pub record Stack : Type 0 where

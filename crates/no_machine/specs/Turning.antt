@@ -97,7 +97,7 @@ Stopped p stop.Spent held s = ⊥
 -- a turn at a state, by its answer
 abbrev pub Turned : Program → Turn → ℕ → ℕ → ℕ → List ℕ → List Saved → (ℕ → Bool) → (ℕ → ℕ) → (ℕ → ℕ) → State → Type 0
 Turned p (turn.On to there) at base sp slots frames held byte after s = HasTurned p to there sp slots frames held after s
-Turned p (turn.Halt why) at base sp slots frames held byte after s = Stopped p why held s × IsStill p at base sp slots frames byte after s
+Turned p (turn.Halt _ _ why) at base sp slots frames held byte after s = Stopped p why held s × IsStill p at base sp slots frames byte after s
 
 -- ---- what stays the same while a program runs
 

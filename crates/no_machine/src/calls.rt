@@ -114,19 +114,19 @@ pub(crate) fn call(
     ensures { (r : IsReadyCall code.now declared.now (drop base slots.old) at f from to) → Called result code.now r.outside r.home r.callee at base into from to slots.old slots.new frames.old.items frames.new.items sp.old sp.new }
 {
     if declared[f as usize] {
-        return Turn::Halt(Stop::Outside);
+        return Turn::Halt(0, 0, Stop::Outside);
     }
     if *sp < STACK_START + CALL_ROOM {
-        return Turn::Halt(Stop::Trapped(Trap::StackOverflow));
+        return Turn::Halt(0, 0, Stop::Trapped(Trap::StackOverflow));
     }
     let home = own_home(code, at);
     let callee = home_of(code, f);
     let above = base + home.registers as usize + 1;
     if callee.registers >= MANY {
-        return Turn::Halt(Stop::NoMemory);
+        return Turn::Halt(0, 0, Stop::NoMemory);
     }
     if slots.len() - above <= callee.registers as usize {
-        return Turn::Halt(Stop::Grow);
+        return Turn::Halt(0, 0, Stop::Grow);
     }
     let saved = Saved {
         next: at + 1,
@@ -135,7 +135,7 @@ pub(crate) fn call(
         sp: *sp,
     };
     if frames.push(saved).is_err() {
-        return Turn::Halt(Stop::NoMemory);
+        return Turn::Halt(0, 0, Stop::NoMemory);
     }
     *sp -= CALL_ROOM;
     let args = arguments(code, from, to);
@@ -167,7 +167,7 @@ pub(crate) fn back(
     ensures { GoesBack result value slots.old slots.new frames.old.items frames.new.items sp.old sp.new }
 {
     let Some(w) = frames.pop() else {
-        return Turn::Halt(Stop::Left(value));
+        return Turn::Halt(0, 0, Stop::Left(value));
     };
     give(slots, w.base + w.into as usize, value);
     *sp = w.sp;

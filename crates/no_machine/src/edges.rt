@@ -58,6 +58,42 @@ fn move_many(
     true
 }
 
+/// Does more than two moves, all at once. Whether there was memory for it; else nothing changed.
+#[inline(always)]
+fn move_more(
+    moves: &[Move],
+    window: &mut [u64],
+    constants: &[u64],
+    scratch: &mut Vec<(u32, u64)>,
+) -> bool
+    requires ready { (k : ℕ) → (v : Move) → slice_get moves.now k ≡ Some v → IsReadyMove window.old constants.now v }
+    ensures { Moves result moves.now constants.now window.old window.new }
+{
+    match moves {
+        [one, two, three] => {
+            let first = read(window, constants, one.from);
+            let second = read(window, constants, two.from);
+            let third = read(window, constants, three.from);
+            window[one.into as usize] = first;
+            window[two.into as usize] = second;
+            window[three.into as usize] = third;
+            true
+        }
+        [one, two, three, four] => {
+            let first = read(window, constants, one.from);
+            let second = read(window, constants, two.from);
+            let third = read(window, constants, three.from);
+            let fourth = read(window, constants, four.from);
+            window[one.into as usize] = first;
+            window[two.into as usize] = second;
+            window[three.into as usize] = third;
+            window[four.into as usize] = fourth;
+            true
+        }
+        _ => move_many(moves, window, constants, scratch),
+    }
+}
+
 /// Does the moves of an edge, all at once. Whether there was memory for it; else nothing changed.
 #[inline(always)]
 fn move_all(
@@ -82,7 +118,7 @@ fn move_all(
             window[two.into as usize] = second;
             true
         }
-        _ => move_many(moves, window, constants, scratch),
+        _ => move_more(moves, window, constants, scratch),
     }
 }
 

@@ -23,9 +23,9 @@ fn out_of_turn(turn: Turn) -> Out
 {
     match turn {
         Turn::On(at, base) => Out::On(at, base, 1),
-        Turn::Halt(Stop::Grow) => Out::Grow,
-        Turn::Halt(Stop::Trapped(trap)) => Out::Trapped(trap),
-        Turn::Halt(_) => Out::NoMemory,
+        Turn::Halt(_, _, Stop::Grow) => Out::Grow,
+        Turn::Halt(_, _, Stop::Trapped(trap)) => Out::Trapped(trap),
+        Turn::Halt(_, _, _) => Out::NoMemory,
     }
 }
 

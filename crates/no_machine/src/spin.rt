@@ -45,7 +45,7 @@ pub(crate) fn spin<M: Memory>(
                 at = next;
                 base = there;
             }
-            Turn::Halt(why) => {
+            Turn::Halt(_at, _base, why) => {
                 let left = stand.left - count;
                 return (why, Stand { at, base, left });
             }

@@ -102,9 +102,9 @@ pub(crate) fn turn<M: Memory>(
     ) {
         Did::Next => Turn::On(at + 1, base),
         Did::To(target) => Turn::On(target as usize, base),
-        Did::Trapped(trap) => Turn::Halt(Stop::Trapped(trap)),
-        Did::WantPage(page) => Turn::Halt(Stop::WantPage(page)),
-        Did::NoMemory => Turn::Halt(Stop::NoMemory),
+        Did::Trapped(trap) => Turn::Halt(0, 0, Stop::Trapped(trap)),
+        Did::WantPage(page) => Turn::Halt(0, 0, Stop::WantPage(page)),
+        Did::NoMemory => Turn::Halt(0, 0, Stop::NoMemory),
         Did::Calls(into, f, from, to) => call(
             facts.code,
             facts.constants,
@@ -119,7 +119,7 @@ pub(crate) fn turn<M: Memory>(
             from,
             to,
         ),
-        Did::CallsAt(_, _, _) => Turn::Halt(Stop::Outside),
+        Did::CallsAt(_, _, _) => Turn::Halt(0, 0, Stop::Outside),
         Did::Returns(x) => {
             let v = read_at(slots, base, facts.constants, x);
             back(slots, frames, sp, Some(v))

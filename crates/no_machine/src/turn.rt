@@ -18,9 +18,12 @@ pub enum Stop {
     Spent,
 }
 
-/// What a turn did: an instruction, and the cell and the base that come then; or none.
+/// What a turn did: an instruction, and the cell and the base that come then; or none, and why.
+///
+/// The two numbers beside the reason tell nothing. They keep its bytes apart from the cell and the base, which then stay in
+/// registers while the machine runs.
 #[derive(Clone, Copy, Debug, PartialEq, Eq)]
 pub(crate) enum Turn {
     On(usize, usize),
-    Halt(Stop),
+    Halt(usize, usize, Stop),
 }

@@ -8,7 +8,7 @@ pub returns-in-Halt-clause-spun : goal.returns-in-Halt-clause-spun
 returns-in-Halt-clause-spun g c = λ s here.
     let a = c.args in
     let l = c.loop-count in
-    let turned = turn_at a.facts.sound.now a.facts.addresses.now (turn.Halt c.in-Halt.why) l.at l.base l.sp c.turn.new.sp l.slots c.turn.new.slots l.frames.items c.turn.new.frames.items (g.M.Memory.byte l.mem) (g.M.Memory.byte c.turn.new.mem) _ _ _ _ l.invariant.regions l.invariant.held c.in-Halt.ensures.turned in
+    let turned = turn_at a.facts.sound.now a.facts.addresses.now (turn.Halt c.in-Halt._at c.in-Halt._base c.in-Halt.why) l.at l.base l.sp c.turn.new.sp l.slots c.turn.new.slots l.frames.items c.turn.new.frames.items (g.M.Memory.byte l.mem) (g.M.Memory.byte c.turn.new.mem) _ _ _ _ l.invariant.regions l.invariant.held c.in-Halt.ensures.turned in
     let count : l.count ≡ a.stand.left - (a.stand.left - l.count) = omega (arith, c.loop-count-test.true) in
     spun_stop (program_with a.facts.sound.now a.facts.addresses.now (g.M.Memory.regions a.mem.now)) (g.M.Memory.held a.mem.now) c.in-Halt.why l.count (a.stand.left - (a.stand.left - l.count)) l.at l.base l.sp l.slots l.frames.items (g.M.Memory.byte l.mem)
     c.turn.new.sp c.turn.new.slots c.turn.new.frames.items (g.M.Memory.byte c.turn.new.mem) s (l.invariant.spun s here) count turned
@@ -17,7 +17,7 @@ pub returns-in-Halt-clause-spent : goal.returns-in-Halt-clause-spent
 returns-in-Halt-clause-spent g c =
     let a = c.args in
     let l = c.loop-count in
-    let turned = turn_at a.facts.sound.now a.facts.addresses.now (turn.Halt c.in-Halt.why) l.at l.base l.sp c.turn.new.sp l.slots c.turn.new.slots l.frames.items c.turn.new.frames.items (g.M.Memory.byte l.mem) (g.M.Memory.byte c.turn.new.mem) _ _ _ _ l.invariant.regions l.invariant.held c.in-Halt.ensures.turned in
+    let turned = turn_at a.facts.sound.now a.facts.addresses.now (turn.Halt c.in-Halt._at c.in-Halt._base c.in-Halt.why) l.at l.base l.sp c.turn.new.sp l.slots c.turn.new.slots l.frames.items c.turn.new.frames.items (g.M.Memory.byte l.mem) (g.M.Memory.byte c.turn.new.mem) _ _ _ _ l.invariant.regions l.invariant.held c.in-Halt.ensures.turned in
     never_spent (program_with a.facts.sound.now a.facts.addresses.now (g.M.Memory.regions a.mem.now)) (g.M.Memory.held a.mem.now) c.in-Halt.why (a.stand.left - l.count) l.at l.base l.sp l.slots l.frames.items (g.M.Memory.byte l.mem)
     c.turn.new.sp c.turn.new.slots c.turn.new.frames.items (g.M.Memory.byte c.turn.new.mem) l.invariant.here.0 l.invariant.here.1 turned
 
