@@ -1,3 +1,3 @@
 mod Absent
 mod Kept
-mod Sample
+mod Standing

@@ -1,215 +1,179 @@
-ghost use Rattle.std.specs.Prelude.{◌≡◌, ◌≤◌, IfOk, false};
-ghost use Rattle.no_cases.specs.Sample.{adds, body, getchar, loads, main, named, reads, returns, sample, stores};
-ghost use Rattle.no_walker.specs.Running.{IsFor, budget_of, count_of};
+ghost use Rattle.std.specs.Prelude.{◌≡◌, IfOk, OnOk, [], false};
+ghost use Rattle.no_image.specs.Pieces.{AreInside, IsImage};
+ghost use Rattle.no_ir.specs.declared.function.Role.TheVariants.{Source};
+ghost use Rattle.no_layout.specs.Memory.{AreFormed};
+ghost use Rattle.no_pages.specs.Table.{regions_of};
+ghost use Rattle.no_semantics.specs.First.{program_of};
+ghost use Rattle.no_verify.specs.Verdict.{IsAccepted};
+ghost use Rattle.no_cases.specs.Standing.{IsFresh, IsReady};
 
-use no_ir::{
-    BinOp, Block, Bytes, Const, End, Function, GlobalVar, Instr, List, Module, NoMemory, Op,
-    Operand, Place, Role, Symbol, Ty,
-};
-use no_layout::{Access, Layout, Loaded, Memory, Regions, Width};
+use no_app::load;
+use no_image::image;
+use no_ir::{End, List, NoMemory};
+use no_layout::{Access, Loaded, Memory, Width};
 use no_lib::{Env, Input};
+use no_machine::{Machine, StepAnswer, Steps};
 use no_pages::PageTable;
-use no_semantics::Sound;
-use no_walker::{Machine, StepAnswer, Steps};
+use no_semantics::{Image, Sound};
 use std::alloc::Global;
 use std::marker::Brand;
 use std::sync::ledger::{Blank, Ledger};
 use std::test::*;
 
-/// No constants, and a global of four bytes.
-const REGIONS: Regions = Regions {
-    constants_end: 0x10000,
-    globals_end: 0x10004,
-};
-
-const LAYOUT: Layout = Layout {
-    big: true,
-    pointer: 32,
-    pointer_align: 32,
-    int_align: [8, 8, 16, 32, 64],
-};
-
-/// The address of a symbol.
-fn named(alloc: Global, symbol: Symbol) -> Operand
-    ensures { result ≡ named symbol }
-{
-    Operand::Const(Const::Address(Place {
-        symbol,
-        base: Ty::Void,
-        indices: List::new(alloc),
-    }))
+/// A program that adds a byte of the input to a global, and returns the sum; the global's first number comes between.
+const PARTS: [&str; 2] = [
+    "target datalayout = \"E-p:32:32-i64:64\"
+@g = global i32 ",
+    "
+declare i32 @getchar()
+define i32 @main() {
+  %number = load i32, ptr @g
+  %byte = call i32 @getchar()
+  %sum = add i32 %number, %byte
+  store i32 %sum, ptr @g
+  ret i32 %sum
 }
+",
+];
 
-fn instr(register: Option<u32>, op: Op) -> Instr
-    ensures { result ≡ record { result = register; inserted = false; op = op } }
+/// The program whose global begins with a number.
+fn accepted(alloc: Global, number: &str) -> Result<Sound, NoMemory>
+    ensures { IfOk result (λ a. IsAccepted a.«module» Source a) }
 {
-    Instr {
-        result: register,
-        inserted: false,
-        op,
+    let mut text = Vec::from_slice(alloc, PARTS[0].as_bytes())?;
+    text.extend_from_slice(number.as_bytes())?;
+    text.extend_from_slice(PARTS[1].as_bytes())?;
+    match load(alloc, &text) {
+        Ok(sound) => Ok(sound),
+        Err(_) => Err(NoMemory),
     }
 }
 
-/// `%0 = load i32, ptr @g`.
-fn loads(alloc: Global) -> Instr
-    ensures { result ≡ loads }
+/// Its first memory.
+fn imaged(alloc: Global, sound: &Sound) -> Result<Image, NoMemory>
+    requires { IsAccepted sound.now.«module» Source sound.now }
+    ensures { IfOk result (λ i. IsImage sound.now i) }
 {
-    let address = named(alloc, Symbol::Global(0));
-    instr(Some(0), Op::Load(false, Ty::Int(32), address))
+    image(alloc, sound)
 }
 
-/// `%1 = call i32 @getchar()`.
-fn reads(alloc: Global) -> Instr
-    ensures { result ≡ reads }
+/// A machine of it over a memory.
+fn booted(
+    alloc: Global,
+    sound: &Sound,
+    addresses: List<u32>,
+    memory: PageTable,
+    budget: u64,
+    env: &Env,
+) -> Result<Machine<PageTable>, NoMemory>
+    requires accepted { IsAccepted sound.now.«module» Source sound.now }
+    requires addresses { addresses ≡ (program_of sound.now).addresses }
+    requires regions { regions_of memory ≡ (program_of sound.now).regions }
+    requires input { env.now.input ≡ [] }
+    ensures { IfOk result (λ m. IsFresh sound.now m env.now) }
 {
-    let callee = named(alloc, Symbol::Function(1));
-    let none = List::new(alloc);
-    instr(Some(1), Op::Call(Ty::Int(32), callee, none))
+    Machine::boot(alloc, sound, addresses, memory, budget)
 }
 
-/// `%2 = add i32 %0, %1`.
-fn adds() -> Instr
-    ensures { result ≡ adds }
+/// Its memory, of which all pages are there, or none.
+fn memory_of(alloc: Global, image: &Image, present: bool) -> Result<PageTable, NoMemory>
+    requires formed { AreFormed image.now.regions }
+    requires inside { AreInside image.now.regions image.now.pieces }
+    ensures { IfOk result (λ m. regions_of m ≡ image.now.regions) }
 {
-    let sum = Op::Binary(BinOp::Add, 32, Operand::Reg(0), Operand::Reg(1));
-    instr(Some(2), sum)
+    if present {
+        no_image::load(alloc, image)
+    } else {
+        PageTable::absent(alloc, image.regions)
+    }
 }
 
-/// `store i32 %2, ptr @g`.
-fn stores(alloc: Global) -> Instr
-    ensures { result ≡ stores }
+/// The program and a machine of it, of whose memory all pages are there, or none.
+fn begin(
+    alloc: Global,
+    number: &str,
+    present: bool,
+    budget: u64,
+    env: &Env,
+) -> Result<(Sound, Machine<PageTable>), NoMemory>
+    requires { env.now.input ≡ [] }
+    ensures { IfOk result (λ b. IsFresh b.0 b.1 env.now) }
 {
-    let address = named(alloc, Symbol::Global(0));
-    instr(
-        None,
-        Op::Store(false, Ty::Int(32), Operand::Reg(2), address),
-    )
+    let sound = accepted(alloc, number)?;
+    let image = imaged(alloc, &sound)?;
+    let memory = memory_of(alloc, &image, present)?;
+    let machine = booted(alloc, &sound, image.addresses, memory, budget, env)?;
+    Ok((sound, machine))
 }
 
-/// `ret i32 %2`.
-fn returns() -> Instr
-    ensures { result ≡ returns }
-{
-    instr(None, Op::Ret(Some((Ty::Int(32), Operand::Reg(2)))))
-}
-
-fn block(alloc: Global) -> Result<Block, NoMemory>
-    ensures { IfOk result (λ b. b ≡ body) }
-{
-    let mut instrs = List::new(alloc);
-    instrs.push(loads(alloc))?;
-    instrs.push(reads(alloc))?;
-    instrs.push(adds())?;
-    instrs.push(stores(alloc))?;
-    instrs.push(returns())?;
-    Ok(Block { label: 0, instrs })
-}
-
-fn name(alloc: Global, text: &[u8]) -> Result<Bytes, NoMemory>
-    ensures { IfOk result (λ n. n ≡ text.now) }
-{
-    Ok(List::from_vec(Vec::from_slice(alloc, text)?))
-}
-
-fn main_function(alloc: Global) -> Result<Function, NoMemory>
-    ensures { IfOk result (λ f. f ≡ main) }
-{
-    let registers = vec![in alloc; List::new(alloc), List::new(alloc), List::new(alloc)]?;
-    let labels = vec![in alloc; List::new(alloc)]?;
-    let blocks = vec![in alloc; block(alloc)?]?;
-    Ok(Function {
-        name: name(alloc, b"main".as_slice())?,
-        result: Ty::Int(32),
-        params: List::new(alloc),
-        bound: false,
-        device_address: None,
-        registers: List::from_vec(registers),
-        labels: List::from_vec(labels),
-        blocks: List::from_vec(blocks),
-    })
-}
-
-fn getchar_function(alloc: Global) -> Result<Function, NoMemory>
-    ensures { IfOk result (λ f. f ≡ getchar) }
-{
-    Ok(Function {
-        name: name(alloc, b"getchar".as_slice())?,
-        result: Ty::Int(32),
-        params: List::new(alloc),
-        bound: false,
-        device_address: None,
-        registers: List::new(alloc),
-        labels: List::new(alloc),
-        blocks: List::new(alloc),
-    })
-}
-
-/// The module of `@g = global i32 0`, `main` and the declared `getchar`.
-fn program(alloc: Global) -> Result<Module, NoMemory>
-    ensures { IfOk result (λ m. m ≡ sample) }
-{
-    let global = GlobalVar {
-        name: List::new(alloc),
-        constant: false,
-        ty: Ty::Int(32),
-        init: Const::Zero,
-        align: None,
-    };
-    let globals = vec![in alloc; global]?;
-    let functions = vec![in alloc; main_function(alloc)?, getchar_function(alloc)?]?;
-    Ok(Module {
-        layout: List::new(alloc),
-        types: List::new(alloc),
-        globals: List::from_vec(globals),
-        functions: List::from_vec(functions),
-    })
-}
-
-#[tactic(auto, using(crate::proofs::Sample::sound, crate::proofs::Sample::has_memory))]
-fn accepted(alloc: Global) -> Result<Sound, NoMemory>
-    ensures { IfOk result (λ a. a.«module» ≡ sample) }
-{
-    let program = program(alloc)?;
-    let Ok(sizes) = LAYOUT.sizes(alloc, &program.types) else {
-        return Err(NoMemory);
-    };
-    Ok(Sound::of(program, LAYOUT, sizes, Role::Source))
-}
-
-/// What a run up to a limit answers, and what is counted then.
-#[tactic(auto, using(crate::proofs::Sample::unmarked))]
+/// What a run up to a limit answers, and what is counted then. An instruction without a meaning fails the case.
 fn turn<L: Ledger>(
     machine: &mut Machine<PageTable>,
     sound: &Sound,
     limit: u64,
     env: &mut Env,
     steps: &mut Steps<L>,
-) -> (StepAnswer, u64)
-    requires within { count_of machine.old ≤ budget_of machine.old }
-    requires made { IsFor sound.now machine.old }
-    requires is { sound.now.«module» ≡ sample }
-    ensures within { count_of machine.new ≤ budget_of machine.new }
-    ensures made { IsFor sound.now machine.new }
+) -> Result<(StepAnswer, u64), NoMemory>
+    requires { IsReady sound.now machine.old env.old }
+    ensures { OnOk result (IsReady sound.now machine.new env.new) }
 {
-    let answer = machine.run(sound, limit, env, steps);
-    (answer, machine.count())
+    match machine.run(sound, limit, env, steps) {
+        StepAnswer::Stuck => Err(NoMemory),
+        answer => Ok((answer, machine.count())),
+    }
 }
 
-/// Gives the machine the page of the global, where it lacks that.
+/// The same of a machine at its beginning that stays there, since it wants a page. All else fails the case.
+fn wait<L: Ledger>(
+    machine: &mut Machine<PageTable>,
+    sound: &Sound,
+    limit: u64,
+    env: &mut Env,
+    steps: &mut Steps<L>,
+) -> Result<(StepAnswer, u64), NoMemory>
+    requires { IsFresh sound.now machine.old env.old }
+    ensures { OnOk result (IsFresh sound.now machine.new env.new) }
+{
+    let answer = machine.run(sound, limit, env, steps);
+    if machine.count() != 0 {
+        return Err(NoMemory);
+    }
+    match answer {
+        StepAnswer::WantPage(_) => Ok((answer, 0)),
+        _ => Err(NoMemory),
+    }
+}
+
+/// Gives a machine at its beginning the page of the global, where it lacks that.
 fn offer(
     machine: &mut Machine<PageTable>,
     sound: &Sound,
     bytes: &[u8; 4096],
+    env: &Env,
 ) -> Result<(), NoMemory>
-    requires within { count_of machine.old ≤ budget_of machine.old }
-    requires made { IsFor sound.now machine.old }
-    ensures within { count_of machine.new ≤ budget_of machine.new }
-    ensures made { IsFor sound.now machine.new }
+    requires { IsFresh sound.now machine.old env.now }
+    ensures { OnOk result (IsFresh sound.now machine.new env.now) }
 {
     match machine.memory().ready(0x10000, 1, false) {
         Access::Missing(page) => machine.supply(page, bytes),
         _ => Ok(()),
     }
+}
+
+/// Puts a text behind the input, where that has not ended.
+fn feed(
+    machine: &Machine<PageTable>,
+    sound: &Sound,
+    text: &[u8],
+    env: &mut Env,
+) -> Result<(), NoMemory>
+    requires { IsReady sound.now machine.now env.old }
+    ensures { OnOk result (IsReady sound.now machine.now env.new) }
+{
+    if env.ended {
+        return Ok(());
+    }
+    env.input.feed(text)
 }
 
 /// What five turns answered with what was counted then, and the number that the global had at the end.
@@ -219,15 +183,86 @@ struct Seen {
     global: Loaded,
 }
 
-/// Two turns up to two counted instructions each; then this input is given, and the global's page with the number 5 where
-/// that is absent; then such a turn again, and two up to a hundred.
-#[tactic(auto, using(crate::proofs::Sample::begins))]
+/// A machine at its beginning may be run.
+fn settle(machine: &Machine<PageTable>, sound: &Sound, env: &Env)
+    requires { IsFresh sound.now machine.now env.now }
+    ensures { IsReady sound.now machine.now env.now }
+{}
+
+/// This input is given, and then comes a turn up to two counted instructions, and two up to a hundred, behind two that were taken.
 fn take_turns<L: Ledger>(
-    alloc: Global,
-    memory: PageTable,
+    machine: &mut Machine<PageTable>,
+    sound: &Sound,
+    taken: [(StepAnswer, u64); 2],
+    input: &[u8],
     env: &mut Env,
-    more: Vec<u8>,
+    steps: &mut Steps<L>,
+) -> Result<Seen, NoMemory>
+    requires { IsReady sound.now machine.old env.old }
+{
+    feed(machine, sound, input, env)?;
+    let third = turn(machine, sound, 2, env, steps)?;
+    let fourth = turn(machine, sound, 100, env, steps)?;
+    let fifth = turn(machine, sound, 100, env, steps)?;
+    Ok(Seen {
+        turns: [taken[0], taken[1], third, fourth, fifth],
+        global: machine.memory().load(true, Width::Four, 0x10000),
+    })
+}
+
+/// This input is given, and then come two turns up to two counted instructions each, and the others behind more input.
+fn take_all<L: Ledger>(
+    machine: &mut Machine<PageTable>,
+    sound: &Sound,
+    first: &[u8],
+    then: &[u8],
+    env: &mut Env,
+    steps: &mut Steps<L>,
+) -> Result<Seen, NoMemory>
+    requires { IsReady sound.now machine.old env.old }
+{
+    feed(machine, sound, first, env)?;
+    let one = turn(machine, sound, 2, env, steps)?;
+    let two = turn(machine, sound, 2, env, steps)?;
+    take_turns(machine, sound, [one, two], then, env, steps)
+}
+
+/// The same, with two turns that want a page, which is given then with the number 5.
+fn take_given<L: Ledger>(
+    machine: &mut Machine<PageTable>,
+    sound: &Sound,
+    then: &[u8],
+    env: &mut Env,
+    steps: &mut Steps<L>,
+) -> Result<Seen, NoMemory>
+    requires { IsFresh sound.now machine.old env.old }
+{
+    let one = wait(machine, sound, 2, env, steps)?;
+    let two = wait(machine, sound, 2, env, steps)?;
+    offer(machine, sound, &five(), env)?;
+    settle(machine, sound, env);
+    take_turns(machine, sound, [one, two], then, env, steps)
+}
+
+/// No input yet, and no output.
+fn quiet(alloc: Global, ended: bool) -> Env
+    ensures { result.input ≡ [] }
+{
+    Env {
+        input: Input::new(alloc),
+        ended,
+        output: Vec::new(alloc),
+    }
+}
+
+/// A run of the program over all its pages.
+fn over_all<L: Ledger>(
+    alloc: Global,
+    number: &str,
     budget: u64,
+    first: &[u8],
+    then: &[u8],
+    ended: bool,
     blank: Blank,
 ) -> Result<Seen, NoMemory>
     requires name { blank.name ≡ L.name }
@@ -235,21 +270,22 @@ fn take_turns<L: Ledger>(
     requires two { blank.parts ≡ 2 }
 {
     let mut steps: Steps<L> = Steps::new(blank);
-    let sound = accepted(alloc)?;
-    let addresses = List::from_vec(vec![in alloc; 0x10000]?);
-    let mut machine = Machine::boot(alloc, &sound, addresses, memory, budget)?;
-    let first = turn(&mut machine, &sound, 2, env, &mut steps);
-    let second = turn(&mut machine, &sound, 2, env, &mut steps);
-    env.input.feed(&more)?;
-    offer(&mut machine, &sound, &five())?;
-    let third = turn(&mut machine, &sound, 2, env, &mut steps);
-    let fourth = turn(&mut machine, &sound, 100, env, &mut steps);
-    let fifth = turn(&mut machine, &sound, 100, env, &mut steps);
-    let global = machine.memory().load(true, Width::Four, 0x10000);
-    Ok(Seen {
-        turns: [first, second, third, fourth, fifth],
-        global,
-    })
+    let mut env = quiet(alloc, ended);
+    let (sound, mut machine) = begin(alloc, number, true, budget, &env)?;
+    settle(&machine, &sound, &env);
+    take_all(&mut machine, &sound, first, then, &mut env, &mut steps)
+}
+
+/// A run of it over no page.
+fn over_none<L: Ledger>(alloc: Global, then: &[u8], blank: Blank) -> Result<Seen, NoMemory>
+    requires name { blank.name ≡ L.name }
+    requires parts { blank.parts ≡ L.parts }
+    requires two { blank.parts ≡ 2 }
+{
+    let mut steps: Steps<L> = Steps::new(blank);
+    let mut env = quiet(alloc, false);
+    let (sound, mut machine) = begin(alloc, "0", false, 100, &env)?;
+    take_given(&mut machine, &sound, then, &mut env, &mut steps)
 }
 
 /// A page whose first number is 5.
@@ -259,23 +295,9 @@ fn five() -> [u8; 4096] {
     page
 }
 
-/// No input yet, and no output.
-fn quiet(alloc: Global) -> Env {
-    Env {
-        input: Input::new(alloc),
-        ended: false,
-        output: Vec::new(alloc),
-    }
-}
-
 #[test]
 fn input_is_waited_for(rt: HostRuntime) -> Result<(), NoMemory> {
-    let alloc = rt.alloc();
-    let mut memory = PageTable::zeros(alloc, REGIONS)?;
-    memory.fill(0x10000, &[0, 0, 1, 5])?;
-    let mut env = quiet(alloc);
-    let more = Vec::from_slice(alloc, b"A".as_slice())?;
-    let seen = take_turns::<Brand>(alloc, memory, &mut env, more, 100, Blank::new(2))?;
+    let seen = over_all::<Brand>(rt.alloc(), "261", 100, b"".as_slice(), b"A".as_slice(), false, Blank::new(2))?;
     let waits = (StepAnswer::WantInput, 1);
     let ended = (StepAnswer::Ended(End::Exited(70)), 5);
     let stepped = (StepAnswer::Stepped, 3);
@@ -286,12 +308,7 @@ fn input_is_waited_for(rt: HostRuntime) -> Result<(), NoMemory> {
 
 #[test]
 fn the_end_of_the_input_is_minus_one(rt: HostRuntime) -> Result<(), NoMemory> {
-    let alloc = rt.alloc();
-    let memory = PageTable::zeros(alloc, REGIONS)?;
-    let mut env = quiet(alloc);
-    env.ended = true;
-    let none = Vec::new(alloc);
-    let seen = take_turns::<Brand>(alloc, memory, &mut env, none, 100, Blank::new(2))?;
+    let seen = over_all::<Brand>(rt.alloc(), "0", 100, b"".as_slice(), b"".as_slice(), true, Blank::new(2))?;
     let first = (StepAnswer::Stepped, 2);
     let second = (StepAnswer::Stepped, 4);
     let ended = (StepAnswer::Ended(End::Exited(255)), 5);
@@ -302,11 +319,7 @@ fn the_end_of_the_input_is_minus_one(rt: HostRuntime) -> Result<(), NoMemory> {
 
 #[test]
 fn an_absent_page_is_wanted(rt: HostRuntime) -> Result<(), NoMemory> {
-    let alloc = rt.alloc();
-    let memory = PageTable::absent(alloc, REGIONS)?;
-    let mut env = quiet(alloc);
-    let more = Vec::from_slice(alloc, b"A".as_slice())?;
-    let seen = take_turns::<Brand>(alloc, memory, &mut env, more, 100, Blank::new(2))?;
+    let seen = over_none::<Brand>(rt.alloc(), b"A".as_slice(), Blank::new(2))?;
     let wants = (StepAnswer::WantPage(0x10), 0);
     let stepped = (StepAnswer::Stepped, 2);
     let ended = (StepAnswer::Ended(End::Exited(70)), 5);
@@ -317,12 +330,7 @@ fn an_absent_page_is_wanted(rt: HostRuntime) -> Result<(), NoMemory> {
 
 #[test]
 fn a_budget_ends_a_run(rt: HostRuntime) -> Result<(), NoMemory> {
-    let alloc = rt.alloc();
-    let memory = PageTable::zeros(alloc, REGIONS)?;
-    let mut env = quiet(alloc);
-    env.input.feed(b"A".as_slice())?;
-    let none = Vec::new(alloc);
-    let seen = take_turns::<Brand>(alloc, memory, &mut env, none, 3, Blank::new(2))?;
+    let seen = over_all::<Brand>(rt.alloc(), "0", 3, b"A".as_slice(), b"".as_slice(), false, Blank::new(2))?;
     let first = (StepAnswer::Stepped, 2);
     let over = (StepAnswer::Ended(End::Unfinished), 3);
     assert!(rt; seen.turns == [first, over, over, over, over]);

@@ -1,6 +1,0 @@
-use Rattle.std.proofs.Common.{◌≡◌, drop}
-use Rattle.no_semantics.specs.Calls.{addressed_from}
-use Rattle.no_walker.proofs.externals.addressed.Given as goal
-
-abbrev pub invariant-loop-index : goal.invariant-loop-index
-invariant-loop-index l = addressed_from l.index (drop l.index l.functions) l.at ≡ addressed_from 0 l.functions l.at
