@@ -8,10 +8,10 @@ use crate::report::Report;
 use no_image::{image, load};
 use no_ir::{End, NoMemory};
 use no_lib::{Env, Input};
+use no_machine::{Machine, StepAnswer, Steps};
 use no_pages::PageTable;
 use no_ports::{GaveAll, Sink, Source, Took, give_all};
 use no_semantics::Sound;
-use no_machine::{Machine, StepAnswer, Steps};
 use std::alloc::Global;
 use std::sync::ledger::Ledger;
 

@@ -61,13 +61,14 @@ fresh a addresses mem budget m env is booted places ends none = record {
   uncounted = booted.uncounted;
   goes_on = booted.goes_on;
   at = λ whole agrees more are closed.
-      let first = begins (program_of a) (is_safe a is) (has_main a is).main whole more are in
-      (first.0,
+      let first = begins (program_of a) (is_safe a is) (has_main a is).main whole more are in (
+        first.0,
         begun_over (program_of a) whole more first.0 first.1,
         booted.starts whole more first.0 (subst (λ (p : Program). start p whole more ≡ Some first.0) (sym same) first.1)
             (subst (λ (x : PageTable). Agrees (held_of x) (byte_of x) whole) booted.memory agrees)
             (subst (λ (p : Program). NeverStuck p first.0) (sym same) (never_stuck (program_of a) (is_safe a is) first.0 first.2))
-            env more (sym (ap (λ (x : List ℕ). x ++ more) none)) closed);
+            env more (sym (ap (λ (x : List ℕ). x ++ more) none)) closed,
+      );
 }
   where
     same : machine.program_of regions_of a m ≡ program_of a

@@ -44,11 +44,7 @@ fn words(alloc: Global) -> Result<Vec<Text>, NoMemory> {
 }
 
 /// The status and the last line of the program, where these takes from the input fail.
-fn told<L: Ledger>(
-    alloc: Global,
-    failing: &[u32],
-    blank: Blank,
-) -> Result<(u8, Vec<u8>), NoMemory>
+fn told<L: Ledger>(alloc: Global, failing: &[u32], blank: Blank) -> Result<(u8, Vec<u8>), NoMemory>
     requires name { blank.name ≡ L.name }
     requires parts { blank.parts ≡ L.parts }
     requires two { blank.parts ≡ 2 }

@@ -297,7 +297,15 @@ fn five() -> [u8; 4096] {
 
 #[test]
 fn input_is_waited_for(rt: HostRuntime) -> Result<(), NoMemory> {
-    let seen = over_all::<Brand>(rt.alloc(), "261", 100, b"".as_slice(), b"A".as_slice(), false, Blank::new(2))?;
+    let seen = over_all::<Brand>(
+        rt.alloc(),
+        "261",
+        100,
+        b"".as_slice(),
+        b"A".as_slice(),
+        false,
+        Blank::new(2),
+    )?;
     let waits = (StepAnswer::WantInput, 1);
     let ended = (StepAnswer::Ended(End::Exited(70)), 5);
     let stepped = (StepAnswer::Stepped, 3);
@@ -308,7 +316,15 @@ fn input_is_waited_for(rt: HostRuntime) -> Result<(), NoMemory> {
 
 #[test]
 fn the_end_of_the_input_is_minus_one(rt: HostRuntime) -> Result<(), NoMemory> {
-    let seen = over_all::<Brand>(rt.alloc(), "0", 100, b"".as_slice(), b"".as_slice(), true, Blank::new(2))?;
+    let seen = over_all::<Brand>(
+        rt.alloc(),
+        "0",
+        100,
+        b"".as_slice(),
+        b"".as_slice(),
+        true,
+        Blank::new(2),
+    )?;
     let first = (StepAnswer::Stepped, 2);
     let second = (StepAnswer::Stepped, 4);
     let ended = (StepAnswer::Ended(End::Exited(255)), 5);
@@ -330,7 +346,15 @@ fn an_absent_page_is_wanted(rt: HostRuntime) -> Result<(), NoMemory> {
 
 #[test]
 fn a_budget_ends_a_run(rt: HostRuntime) -> Result<(), NoMemory> {
-    let seen = over_all::<Brand>(rt.alloc(), "0", 3, b"A".as_slice(), b"".as_slice(), false, Blank::new(2))?;
+    let seen = over_all::<Brand>(
+        rt.alloc(),
+        "0",
+        3,
+        b"A".as_slice(),
+        b"".as_slice(),
+        false,
+        Blank::new(2),
+    )?;
     let first = (StepAnswer::Stepped, 2);
     let over = (StepAnswer::Ended(End::Unfinished), 3);
     assert!(rt; seen.turns == [first, over, over, over, over]);

@@ -2,58 +2,18 @@
 use Rattle.std.specs.Prelude.{ℕ, Bool, true, false, List, [], ◌∷◌, ◌++◌, codes, decimal, Option, Some, None}
 use Rattle.no_ir.specs.declared.types.Ty.{Ty}
 use Rattle.no_ir.specs.declared.types.Ty.TheVariants as ty
-use Rattle.no_ir.specs.declared.instruction.BinOp.{BinOp}
-use Rattle.no_ir.specs.declared.instruction.BinOp.TheVariants as by
-use Rattle.no_ir.specs.declared.instruction.CastOp.{CastOp}
-use Rattle.no_ir.specs.declared.instruction.CastOp.TheVariants as cast
-use Rattle.no_ir.specs.declared.instruction.Pred.{Pred}
-use Rattle.no_ir.specs.declared.instruction.Pred.TheVariants as pred
 use Rattle.no_ir.specs.declared.instruction.Operand.{Operand}
 use Rattle.no_ir.specs.declared.instruction.Operand.TheVariants as operand
 use Rattle.no_ir.specs.declared.instruction.Op.{Op}
 use Rattle.no_ir.specs.declared.instruction.Op.TheVariants as op
 use Rattle.no_ir.specs.declared.instruction.Instr.{Instr}
 use Rattle.no_lex.specs.declared.token.TokenKind.TheVariants as kind
+pub use Rattle.no_words.specs.Words.{binary_word, cast_word, pred_word}
 use Rattle.no_print.specs.Pieces.{Piece, glued, spaced, indented, piece, word, sign, integer, comma, behind_commas, with_commas}
 use Rattle.no_print.specs.Names.{name_at, local_name, int_type, number}
 use Rattle.no_print.specs.Constants.{Spelled, type_at, const_pieces}
 
 -- ---- words
-
-abbrev pub binary_word : BinOp → List ℕ
-binary_word by.Add = codes "add"
-binary_word by.Sub = codes "sub"
-binary_word by.Mul = codes "mul"
-binary_word by.UDiv = codes "udiv"
-binary_word by.URem = codes "urem"
-binary_word by.SDiv = codes "sdiv"
-binary_word by.SRem = codes "srem"
-binary_word by.Shl = codes "shl"
-binary_word by.LShr = codes "lshr"
-binary_word by.AShr = codes "ashr"
-binary_word by.And = codes "and"
-binary_word by.Or = codes "or"
-binary_word by.Xor = codes "xor"
-
-abbrev pub cast_word : CastOp → List ℕ
-cast_word cast.Trunc = codes "trunc"
-cast_word cast.ZExt = codes "zext"
-cast_word cast.SExt = codes "sext"
-cast_word cast.PtrToInt = codes "ptrtoint"
-cast_word cast.IntToPtr = codes "inttoptr"
-cast_word cast.BitCast = codes "bitcast"
-
-abbrev pub pred_word : Pred → List ℕ
-pred_word pred.Eq = codes "eq"
-pred_word pred.Ne = codes "ne"
-pred_word pred.Ugt = codes "ugt"
-pred_word pred.Uge = codes "uge"
-pred_word pred.Ult = codes "ult"
-pred_word pred.Ule = codes "ule"
-pred_word pred.Sgt = codes "sgt"
-pred_word pred.Sge = codes "sge"
-pred_word pred.Slt = codes "slt"
-pred_word pred.Sle = codes "sle"
 
 abbrev pub volatile_word : Bool → List Piece
 volatile_word false = []

@@ -1,7 +1,6 @@
 -- The one spelling of a module (docs/LANGUAGE.md, "Canonical text"; LLVM Language Reference, "Module Structure").
-use Rattle.std.specs.Prelude.{ℕ, Bool, true, false, List, [], ◌∷◌, ◌++◌, map, fold, codes, decimal, Option, Some, None}
+use Rattle.std.specs.Prelude.{ℕ, Bool, true, false, List, [], ◌∷◌, ◌++◌, map, codes, decimal, Option, Some, None}
 use Rattle.std.specs.List.{list_any}
-use Rattle.no_ir.specs.Naming.{with_name}
 use Rattle.no_ir.specs.declared.types.Ty.{Ty}
 use Rattle.no_ir.specs.declared.instruction.Instr.{Instr}
 use Rattle.no_ir.specs.declared.function.Block.{Block}
@@ -9,14 +8,11 @@ use Rattle.no_ir.specs.declared.function.Function.{Function}
 use Rattle.no_ir.specs.declared.function.GlobalVar.{GlobalVar}
 use Rattle.no_ir.specs.declared.function.Module.{Module}
 use Rattle.no_lex.specs.declared.token.TokenKind.TheVariants as kind
+pub use Rattle.no_words.specs.Names.{names_once}
 use Rattle.no_print.specs.Pieces.{Piece, written, glued, spaced, lined, parted, piece, word, sign, with_commas}
 use Rattle.no_print.specs.Names.{name_at, global_name, local_name, label_line, string}
 use Rattle.no_print.specs.Constants.{Spelled, type_at, const_pieces}
 use Rattle.no_print.specs.Instructions.{Locals, instr_pieces, alignment_pieces}
-
--- names in the order of their first appearance
-abbrev pub names_once : List (List ℕ) → List (List ℕ)
-names_once = fold with_name []
 
 abbrev pub spelled_in : Module → Spelled
 spelled_in m = record {
