@@ -255,25 +255,35 @@ fn quiet(alloc: Global, ended: bool) -> Env
     }
 }
 
-/// A run of the program over all its pages.
-fn over_all<L: Ledger>(
-    alloc: Global,
-    number: &str,
+/// What differs between runs over all pages: the first number of the global, the budget, the input at first and what comes
+/// then, and whether the input has ended.
+#[derive(Clone, Copy)]
+struct Case<'a> {
+    number: &'a str,
     budget: u64,
-    first: &[u8],
-    then: &[u8],
+    first: &'a [u8],
+    then: &'a [u8],
     ended: bool,
-    blank: Blank,
-) -> Result<Seen, NoMemory>
+}
+
+/// A run of the program over all its pages.
+fn over_all<L: Ledger>(alloc: Global, case: Case<'_>, blank: Blank) -> Result<Seen, NoMemory>
     requires name { blank.name ≡ L.name }
     requires parts { blank.parts ≡ L.parts }
     requires two { blank.parts ≡ 2 }
 {
     let mut steps: Steps<L> = Steps::new(blank);
-    let mut env = quiet(alloc, ended);
-    let (sound, mut machine) = begin(alloc, number, true, budget, &env)?;
+    let mut env = quiet(alloc, case.ended);
+    let (sound, mut machine) = begin(alloc, case.number, true, case.budget, &env)?;
     settle(&machine, &sound, &env);
-    take_all(&mut machine, &sound, first, then, &mut env, &mut steps)
+    take_all(
+        &mut machine,
+        &sound,
+        case.first,
+        case.then,
+        &mut env,
+        &mut steps,
+    )
 }
 
 /// A run of it over no page.
@@ -297,15 +307,14 @@ fn five() -> [u8; 4096] {
 
 #[test]
 fn input_is_waited_for(rt: HostRuntime) -> Result<(), NoMemory> {
-    let seen = over_all::<Brand>(
-        rt.alloc(),
-        "261",
-        100,
-        b"".as_slice(),
-        b"A".as_slice(),
-        false,
-        Blank::new(2),
-    )?;
+    let case = Case {
+        number: "261",
+        budget: 100,
+        first: b"".as_slice(),
+        then: b"A".as_slice(),
+        ended: false,
+    };
+    let seen = over_all::<Brand>(rt.alloc(), case, Blank::new(2))?;
     let waits = (StepAnswer::WantInput, 1);
     let ended = (StepAnswer::Ended(End::Exited(70)), 5);
     let stepped = (StepAnswer::Stepped, 3);
@@ -316,15 +325,14 @@ fn input_is_waited_for(rt: HostRuntime) -> Result<(), NoMemory> {
 
 #[test]
 fn the_end_of_the_input_is_minus_one(rt: HostRuntime) -> Result<(), NoMemory> {
-    let seen = over_all::<Brand>(
-        rt.alloc(),
-        "0",
-        100,
-        b"".as_slice(),
-        b"".as_slice(),
-        true,
-        Blank::new(2),
-    )?;
+    let case = Case {
+        number: "0",
+        budget: 100,
+        first: b"".as_slice(),
+        then: b"".as_slice(),
+        ended: true,
+    };
+    let seen = over_all::<Brand>(rt.alloc(), case, Blank::new(2))?;
     let first = (StepAnswer::Stepped, 2);
     let second = (StepAnswer::Stepped, 4);
     let ended = (StepAnswer::Ended(End::Exited(255)), 5);
@@ -346,15 +354,14 @@ fn an_absent_page_is_wanted(rt: HostRuntime) -> Result<(), NoMemory> {
 
 #[test]
 fn a_budget_ends_a_run(rt: HostRuntime) -> Result<(), NoMemory> {
-    let seen = over_all::<Brand>(
-        rt.alloc(),
-        "0",
-        3,
-        b"A".as_slice(),
-        b"".as_slice(),
-        false,
-        Blank::new(2),
-    )?;
+    let case = Case {
+        number: "0",
+        budget: 3,
+        first: b"A".as_slice(),
+        then: b"".as_slice(),
+        ended: false,
+    };
+    let seen = over_all::<Brand>(rt.alloc(), case, Blank::new(2))?;
     let first = (StepAnswer::Stepped, 2);
     let over = (StepAnswer::Ended(End::Unfinished), 3);
     assert!(rt; seen.turns == [first, over, over, over, over]);
