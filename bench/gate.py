@@ -1,8 +1,8 @@
 """Processor time of each crate in a whole run of the gate from nothing; outside the gate, with nothing else running.
 
-python3 bench/gate.py FOLDER runs `rt ci --anew` in a clone, reads every half second what each check has used, and prints the
-rows of the table in docs/GATE.md: how many edits a crate has, its proof (the first check), its tests, and its edits (the checks
-behind).
+python3 bench/gate.py FOLDER [CRATE ..] runs `rt ci --anew` there, of the whole clone or of some crates and those below them, reads
+every half second what each process of the prover has used, and prints the rows of the table in docs/GATE.md: how many edits a crate
+has, and the times of its proof, of its tests, and of trying its edits.
 """
 import collections
 import glob
@@ -13,6 +13,7 @@ import sys
 import time
 
 TICKS = os.sysconf("SC_CLK_TCK")
+PROOF, TESTS, EDITS = range(3)
 
 
 def read(path):
@@ -24,39 +25,45 @@ def read(path):
         return ""
 
 
+def kind_of(pid, line):
+    """What a process of the prover is at work on: edits are tried in folders of their own."""
+    try:
+        folder = os.readlink(f"/proc/{pid}/cwd")
+    except OSError:
+        folder = ""
+    if "/rt-edit-" in folder:
+        return EDITS
+    return TESTS if " --test " in line else PROOF
+
+
 def sample(seen):
-    """Notes what each check has used by now, under the process that began it."""
-    checks = {}
+    """Notes what each process of the prover has used by now, workers of a proof too."""
     for pid in filter(str.isdigit, os.listdir("/proc")):
         line = read(f"/proc/{pid}/cmdline")
-        name = re.search(r"/rattle check --crate-name (\S+) ", line)
-        if name:
-            checks[int(pid)] = name[1], " --test " in line
-    for pid, told in checks.items():
-        fields = read(f"/proc/{pid}/stat").rpartition(")")[2].split()
+        name = re.search(r"/rattle (?:build|check|test) --crate-name (\S+) ", line)
+        fields = read(f"/proc/{pid}/stat").rpartition(")")[2].split() if name else []
         if fields:
-            parent = int(fields[1])
-            first = parent if checks.get(parent) == told else pid
-            seen.setdefault((first, *told), {})[pid] = (int(fields[11]) + int(fields[12])) / TICKS
+            _, kind, _ = seen.get((pid, fields[19]), (None, kind_of(pid, line), None))
+            seen[pid, fields[19]] = name[1], kind, (int(fields[11]) + int(fields[12])) / TICKS
 
 
 def shown(seconds):
-    return f"{int(seconds) // 60} min {int(seconds) % 60:02} s" if seconds else ""
+    minutes, rest = divmod(int(seconds), 60)
+    return f"{minutes} min {rest:02} s" if minutes else f"{rest} s" if rest else ""
 
 
 def main():
-    gate = subprocess.Popen(["rt", "ci", "--anew"], cwd=sys.argv[1], stdout=sys.stderr)
+    gate = subprocess.Popen(["rt", "ci", *sys.argv[2:], "--anew"], cwd=sys.argv[1], stdout=sys.stderr)
     seen = {}
     while gate.poll() is None:
         sample(seen)
         time.sleep(0.5)
     rows = collections.defaultdict(lambda: [0.0, 0.0, 0.0])
-    for (_, name, of_tests), used in seen.items():
-        row = rows[name]
-        row[1 if of_tests else 2 if row[0] else 0] += sum(used.values())
-    for name, (proof, tests, edits) in rows.items():
+    for name, kind, used in seen.values():
+        rows[name][kind] += used
+    for name, row in rows.items():
         number = len(glob.glob(f"{sys.argv[1]}/crates/{name}/must-fail/*.edit"))
-        print(f"| `{name}` | {number} | {shown(proof)} | {shown(tests)} | {shown(edits)} |")
+        print(f"| `{name}` | {number} | {' | '.join(map(shown, row))} |")
     print(f"whole: {shown(sum(map(sum, rows.values())))}", file=sys.stderr)
     return gate.returncode
 
