@@ -1,2 +1,4 @@
+pub mod Choices
 pub mod Gains
+pub mod Numbered
 pub mod Ranges
