@@ -4,6 +4,7 @@ use Rattle.std.specs.List.{slice_split, list_all, fold}
 use Rattle.no_layout.specs.declared.number.Field.{Field}
 use Rattle.no_layout.specs.declared.number.Field.TheVariants.{Absent, Word, Number}
 
+-- a decimal digit, as a byte
 abbrev pub is_digit : ℕ → Bool
 is_digit b = nat_le 48 b && nat_le b 57
 

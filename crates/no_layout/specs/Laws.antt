@@ -11,25 +11,31 @@ use Rattle.byteorder.specs.Endian.{big_from, little_from}
 use Rattle.byteorder.specs.Numbers.{big_from-cons, little_from-cons, big_number-reads_back, little_number-reads_back, length-bytes_high_first, length-bytes_low_first}
 use Rattle.no_layout.specs.Orders.{big_of, little_of, swapped}
 
+-- the library `byteorder` reads the number that `big_of` says
 pub big_same : (bs : List ℕ) → big_from 0 (length bs) bs ≡ big_of bs
 big_same [] = refl
 big_same (b ∷ bs) = ap (λ (r : ℕ). b * 256 ^ length bs + r) (big_from-cons 0 (length bs) b bs ∙ big_same bs)
 
+-- the library `byteorder` reads the number that `little_of` says
 pub little_same : (bs : List ℕ) → little_from 0 (length bs) bs ≡ little_of bs
 little_same [] = refl
 little_same (b ∷ bs) = ap (λ (r : ℕ). b + 256 * r) (little_from-cons 0 (length bs) b bs ∙ little_same bs)
 
+-- a number put as n bytes, high byte first, takes n bytes
 pub big_length : (n v : ℕ) → length (bytes_high_first n v) ≡ n
 big_length n v = length-bytes_high_first n v
 
+-- a number put as n bytes, low byte first, takes n bytes
 pub little_length : (n v : ℕ) → length (bytes_low_first 0 n v) ≡ n
 little_length n v = length-bytes_low_first 0 n v
 
+-- a number below 256 ^ n that is put as n bytes, high byte first, is got back from them
 pub big_gets_put : (n v : ℕ) → v < 256 ^ n → big_of (bytes_high_first n v) ≡ v
 big_gets_put n v h =
     let bs = bytes_high_first n v in
     sym (big_same bs) ∙ ap (λ (k : ℕ). big_from 0 k bs) (big_length n v) ∙ ap (big_from 0 n) (sym (append-nil bs)) ∙ big_number-reads_back n v [] h
 
+-- a number below 256 ^ n that is put as n bytes, low byte first, is got back from them
 pub little_gets_put : (n v : ℕ) → v < 256 ^ n → little_of (bytes_low_first 0 n v) ≡ v
 little_gets_put n v h =
     let bs = bytes_low_first 0 n v in
@@ -50,13 +56,14 @@ little_snoc (x ∷ bs) b =
     let ih = little_snoc bs b in
     rw (ih, pow-succ' 256 (length bs)) (omega arith)
 
--- the same bytes backwards have the same number in the other order
+-- bytes with the low one first have the number that they have backwards with the high one first
 pub little_reversed : (bs : List ℕ) → little_of bs ≡ big_of (reverse bs)
 little_reversed [] = refl
 little_reversed (b ∷ bs) =
     let ih = little_reversed bs in
     rw (reverse_onto bs b [], big_snoc (reverse bs) b) (omega arith)
 
+-- bytes with the high one first have the number that they have backwards with the low one first
 pub big_reversed : (bs : List ℕ) → big_of bs ≡ little_of (reverse bs)
 big_reversed [] = refl
 big_reversed (b ∷ bs) =
@@ -88,6 +95,7 @@ little_puts_got (b ∷ bs) h =
     let low : (b + 256 * little_of bs) % 256 ≡ b = omega arith in
     rw (low, low_shift 0 (length bs) b (little_of bs) first, little_puts_got bs (All-tail (λ x. x < 256) b bs h)) refl
 
+-- the number of bytes with the high one first is the other order's number with its bytes swapped
 pub big_swapped : (bs : List ℕ) → All (λ b. b < 256) bs → big_of bs ≡ swapped (length bs) (little_of bs)
 big_swapped bs h = ap big_of (sym (little_puts_got bs h))
 
@@ -96,6 +104,7 @@ all_reversed bs h k d lt =
     let within : k < length bs = omega (arith, length-reverse bs) in
     rw (get_or-reverse bs k d within) (h (length bs - 1 - k) d (omega arith))
 
+-- the number of bytes with the low one first is the other order's number with its bytes swapped
 pub little_swapped : (bs : List ℕ) → All (λ b. b < 256) bs → little_of bs ≡ swapped (length bs) (big_of bs)
 little_swapped bs h =
     let back = little_puts_got (reverse bs) (all_reversed bs h) in

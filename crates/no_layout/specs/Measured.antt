@@ -14,6 +14,7 @@ pub record IsSmall (e : Extent) : Type 0 where
   pub align : 0 < e.align
   pub align_most : e.align ≤ 8
 
+-- the numbers of all named types are small
 abbrev pub AreSmall : List Extent → Type 0
 AreSmall = All IsSmall
 
@@ -24,6 +25,7 @@ pub record Agrees (e : Extent) (m : Measure) : Type 0 where
   pub fits : m.fits ≡ true
   pub small : IsSmall e
 
+-- what measuring gives: the numbers of a measure that fits, or none of one that does not
 abbrev pub IsMeasured : Option Extent → Measure → Type 0
 IsMeasured None m = m.fits ≡ false
 IsMeasured (Some e) m = Agrees e m

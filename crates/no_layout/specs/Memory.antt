@@ -10,24 +10,31 @@ use Rattle.no_layout.specs.declared.memory.Access.TheVariants.{Done, Missing, Re
 
 -- ---- the memory map
 
+-- where the constants begin
 abbrev pub constants_start : ℕ
 constants_start = 0x0001_0000
 
+-- where the heap begins
 abbrev pub heap_start : ℕ
 heap_start = 0x1000_0000
 
+-- where the heap ends
 abbrev pub heap_end : ℕ
 heap_end = 0x1400_0000
 
+-- the low end of the stack
 abbrev pub stack_start : ℕ
 stack_start = 0x2000_0000
 
+-- the high end of the stack
 abbrev pub stack_end : ℕ
 stack_end = 0x2010_0000
 
+-- the address that the end of the globals may not pass
 abbrev pub globals_limit : ℕ
 globals_limit = 0x0200_0000
 
+-- how many bytes a page has
 abbrev pub page_size : ℕ
 page_size = 4096
 
@@ -51,6 +58,7 @@ pub record AreFormed (r : Regions) : Type 0 where
 abbrev pub within : ℕ → ℕ → ℕ → ℕ → Bool
 within low high at n = nat_le low at && nat_le (at + n) high
 
+-- all n bytes lie in the constants
 abbrev pub in_constants : Regions → ℕ → ℕ → Bool
 in_constants r at n = within constants_start r.constants_end at n
 
@@ -81,6 +89,7 @@ first_absent held p (suc count) = if held p then first_absent held (p + 1) count
 
 -- ---- accesses
 
+-- what an access answers, by why it is refused and by the lowest page that is absent; a refusal is judged first
 abbrev pub answer : Option Trap → Option ℕ → Access
 answer (Some trap) absent = Refused trap
 answer None (Some page) = Missing page

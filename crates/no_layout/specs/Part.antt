@@ -26,6 +26,7 @@ abbrev pub is_word : Field → Bool
 is_word Word = true
 is_word _ = false
 
+-- whether a field is not there
 abbrev pub is_absent : Field → Bool
 is_absent Absent = true
 is_absent _ = false
@@ -86,9 +87,11 @@ abbrev pub placed_integer : Option ℕ → ℕ → Result Part LayoutKind
 placed_integer (Some place) align = if is_alignment align 64 then Ok (Integer place align) else Err BadSpec
 placed_integer None align = if is_alignment align 1024 then Ok Other else Err BadSpec
 
+-- an integer type of so many bits with an alignment
 abbrev pub integer_of : ℕ → ℕ → Result Part LayoutKind
 integer_of bits align = placed_integer (place_of bits) align
 
+-- an integer type of so many bits, whose alignment has to be a number
 abbrev pub aligned_integer : ℕ → Field → Result Part LayoutKind
 aligned_integer bits (Number align) = integer_of bits align
 aligned_integer bits _ = Err BadSpec
@@ -99,6 +102,7 @@ integer_part bits fields =
     if is_word (field_at 1 fields) || not (is_absent (field_at 2 fields)) then Err BadSpec
     else aligned_integer bits (field_at 0 fields)
 
+-- a part of integers, whose width has to be a number
 abbrev pub of_width : Field → List Field → Result Part LayoutKind
 of_width (Number bits) fields = integer_part bits fields
 of_width _ fields = Err BadSpec
@@ -113,6 +117,7 @@ named_part (c ∷ name) fields =
     else (if c == 105 then of_width (field_of name) fields
     else Err BadSpec)
 
+-- a part by its strings between the colons
 abbrev pub parted : List (List ℕ) → Result Part LayoutKind
 parted [] = Err BadSpec
 parted (head ∷ fields) = named_part head (map field_of fields)

@@ -28,6 +28,7 @@ stride_of m = next_multiple_of m.size m.align
 
 -- ---- integers and pointers
 
+-- how many bytes an integer type takes; a width that no integer has takes none
 abbrev pub int_size : ℕ → ℕ
 int_size width =
     if width == 1 || width == 8 then 1
@@ -36,6 +37,7 @@ int_size width =
     else (if width == 64 then 8
     else 0)))
 
+-- the alignment of an integer type in bytes, from the bits that the layout states
 abbrev pub int_align : Layout → ℕ → ℕ
 int_align l width =
     if width == 1 then slice_index l.int_align 0 / 8
@@ -51,7 +53,7 @@ int_align l width =
 abbrev pub place_after : Bool → ℕ → ℕ → ℕ
 place_after packed end align = if packed then end else next_multiple_of end align
 
--- the end of the fields, the greatest of their alignments, and whether they all fit, with one field more
+-- the fields with one more: where they end, the greatest of their alignments, and whether they all fit
 abbrev pub with_field : Bool → Measure → Measure → Measure
 with_field packed all field = record {
   size = place_after packed all.size field.align + field.size;
@@ -59,9 +61,11 @@ with_field packed all field = record {
   fits = all.fits && field.fits;
 }
 
+-- where no field stands yet: 0 bytes, aligned to 1
 abbrev pub no_fields : Measure
 no_fields = record { size = 0; align = 1; fits = true }
 
+-- where fields end, the greatest of their alignments, and whether they all fit
 abbrev pub fields_of : Bool → List Measure → Measure
 fields_of packed = fold (with_field packed) no_fields
 
@@ -76,6 +80,7 @@ abbrev pub known : Option Extent → Measure
 known (Some e) = measure e.size e.align true
 known None = measure 0 1 true
 
+-- the measure of one form of a type, where the types inside it are measured
 abbrev pub measure_step : Layout → List Extent → Ty-F Measure → Measure
 measure_step l sizes Ty-F.Void = measure 0 1 true
 measure_step l sizes (Ty-F.Int width) = measure (int_size width) (int_align l width) true
@@ -88,13 +93,15 @@ measure_step l sizes (Ty-F.Named k) = known (slice_get sizes k)
 abbrev pub measure_of : Layout → List Extent → Ty → Measure
 measure_of l sizes = fold-Ty Measure (measure_step l sizes)
 
--- the numbers of a type, in bytes
+-- the size of a type in bytes
 abbrev pub type_size : Layout → List Extent → Ty → ℕ
 type_size l sizes t = (measure_of l sizes t).size
 
+-- the alignment of a type in bytes
 abbrev pub type_align : Layout → List Extent → Ty → ℕ
 type_align l sizes t = (measure_of l sizes t).align
 
+-- how far the beginnings of two values of a type are apart in an array, in bytes
 abbrev pub type_stride : Layout → List Extent → Ty → ℕ
 type_stride l sizes t = stride_of (measure_of l sizes t)
 
@@ -104,13 +111,15 @@ Fits l sizes t = (measure_of l sizes t).fits ≡ true
 
 -- ---- named types
 
--- the numbers of the types of a module, each by those of the types before it
+-- the size and the alignment of a measure
 abbrev pub extent_of : Measure → Extent
 extent_of m = record { size = m.size; align = m.align }
 
+-- the numbers of some named types, with those of the next type behind them
 abbrev pub with_type : Layout → List Extent → List ℕ × Ty → List Extent
 with_type l before named = before ++ extent_of (measure_of l before named.1) ∷ []
 
+-- the numbers of the named types of a module, each by those of the types before it
 abbrev pub sizes_of : Layout → List (List ℕ × Ty) → List Extent
 sizes_of l = fold (with_type l) []
 
@@ -119,6 +128,7 @@ abbrev pub entry_fits : Layout → List Extent → Option (List ℕ × Ty) → B
 entry_fits l before None = false
 entry_fits l before (Some named) = (measure_of l before named.1).fits
 
+-- whether there is a named type k and it fits, by the numbers of the types before it
 abbrev pub fits_at : Layout → List (List ℕ × Ty) → ℕ → Bool
 fits_at l types k = entry_fits l (sizes_of l (take k types)) (slice_get types k)
 
@@ -140,6 +150,7 @@ abbrev pub offset_in : Bool → List Measure → Option Measure → ℕ
 offset_in packed before None = 0
 offset_in packed before (Some field) = place_after packed (fields_of packed before).size field.align
 
+-- where field k of one form of a type begins; what is no struct has it at 0
 abbrev pub offset_step : Layout → List Extent → Ty-F Ty → ℕ → ℕ
 offset_step l sizes (Ty-F.Struct packed fields) k = offset_in packed (map (measure_of l sizes) (take k fields)) (slice_get (map (measure_of l sizes) fields) k)
 offset_step l sizes _ k = 0
@@ -159,6 +170,7 @@ HasField t k = k < field_count (out-Ty t)
 
 -- ---- named types that refer to lower ones alone
 
+-- one form of a type, where it is known whether the named types inside its parts have numbers below k
 abbrev pub below_step : ℕ → Ty-F Bool → Bool
 below_step k (Ty-F.Array count element) = element
 below_step k (Ty-F.Struct packed fields) = list_all (λ field. field) fields
@@ -169,6 +181,7 @@ below_step k _ = true
 abbrev pub names_below : ℕ → Ty → Bool
 names_below k = fold-Ty Bool (below_step k)
 
+-- whether a named type, where there is one, refers to numbers below k alone
 abbrev pub entry_below : ℕ → Option (List ℕ × Ty) → Bool
 entry_below k None = true
 entry_below k (Some named) = names_below k named.1

@@ -1,1 +1,2 @@
+mod Indices
 pub mod Meets

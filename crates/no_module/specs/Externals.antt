@@ -35,6 +35,7 @@ mark_named name =
     else (if bytes_eq name (codes "llvm.assume") then Some external.Hint
     else None))
 
+-- the width that the type at the end of an intrinsic's name says; no intrinsic here has `i1`
 abbrev pub width_word : List ℕ → Option ℕ
 width_word word =
     if bytes_eq word (codes "i8") then Some 8
@@ -43,6 +44,7 @@ width_word word =
     else (if bytes_eq word (codes "i64") then Some 64
     else None)))
 
+-- a width, where it has at least so many bits
 abbrev pub at_least : ℕ → Option ℕ → Option ℕ
 at_least least None = None
 at_least least (Some w) = if nat_lt w least then None else Some w
@@ -87,6 +89,7 @@ memory_named name =
     (ranged external.Set (width_behind 32 (codes "llvm.memset.p0.") name)
     None))
 
+-- the first external, or the other where there is none
 abbrev pub or_else : Option External → Option External → Option External
 or_else None other = other
 or_else (Some e) other = Some e
@@ -95,11 +98,12 @@ or_else (Some e) other = Some e
 abbrev pub other_named : Role → List ℕ → Option External
 other_named role name = or_else (library_named name) (or_else (mark_named name) (or_else (integer_named name) (helper_named role name)))
 
--- no length
+-- the row of an external without a length
 abbrev pub plain_row : Option External → Option Row
 plain_row None = None
 plain_row (Some e) = Some (record { external = e; length = 0 })
 
+-- the row of an external on memory, or else that of another
 abbrev pub or_plain : Option Row → Option External → Option Row
 or_plain (Some row) other = Some row
 or_plain None other = plain_row other
@@ -108,6 +112,7 @@ or_plain None other = plain_row other
 abbrev pub row_named : Role → List ℕ → Option Row
 row_named role name = or_plain (memory_named name) (other_named role name)
 
+-- the external of a row
 abbrev pub external_in : Option Row → Option External
 external_in None = None
 external_in (Some row) = Some row.external
@@ -118,6 +123,7 @@ external_named role name = external_in (row_named role name)
 
 -- ---- types
 
+-- a result is of this type
 abbrev pub gives : Scalar → Ty → Bool
 gives s t = is_of s (scalar_of t)
 
@@ -146,6 +152,7 @@ has_type external.Hint n t ps = is_void t
 has_type external.Alloca n t ps = gives scalar.Ptr t && takes (scalar.Int 64 ∷ scalar.Int 64 ∷ scalar.Int 64 ∷ []) ps
 has_type external.Map n t ps = gives scalar.Ptr t && takes (scalar.Ptr ∷ []) ps
 
+-- the external of a row, where result and parameters are those that it has
 abbrev pub typed_row : Option Row → Ty → List (ℕ × Ty) → Option External
 typed_row None t ps = None
 typed_row (Some row) t ps = if has_type row.external row.length t ps then Some row.external else None

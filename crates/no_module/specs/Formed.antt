@@ -26,6 +26,7 @@ use Rattle.no_module.specs.Widths.{is_width, is_below, is_alignment}
 
 -- ---- types
 
+-- one form of a type, where it is known whether the types inside it are formed
 abbrev pub type_step : ℕ → Ty-F Bool → Bool
 type_step n Ty-F.Void = false
 type_step n (Ty-F.Int w) = is_width w
@@ -38,7 +39,7 @@ type_step n (Ty-F.Named k) = nat_lt k n
 abbrev pub type_formed : ℕ → Ty → Bool
 type_formed n = fold-Ty Bool (type_step n)
 
--- void may be a result
+-- the type of a result, which may be void
 abbrev pub result_formed : ℕ → Ty → Bool
 result_formed n t = is_void t || type_formed n t
 
@@ -55,6 +56,7 @@ pub record Counts : Type 0 where
   pub functions : ℕ
   pub types : List (List ℕ × Ty)
 
+-- the counts of a module
 abbrev pub counts_of : Module → Counts
 counts_of m = record { globals = length m.globals; functions = length m.functions; types = m.types }
 
@@ -69,11 +71,13 @@ abbrev pub base_formed : Counts → Ty → List ℤ → Bool
 base_formed c base [] = is_void base
 base_formed c base (i ∷ others) = type_formed (length c.types) base
 
+-- an address: its symbol is formed, and its base is a type just where it has indices
 abbrev pub place_formed : Counts → Place → Bool
 place_formed c place = symbol_formed c place.symbol && base_formed c place.base place.indices
 
 -- ---- constants at a type
 
+-- a number at a form of a type: below 2 to the power of its width, where it is an integer's
 abbrev pub number_in : ℕ → Ty-F Ty → Bool
 number_in n (Ty-F.Int w) = is_below w n
 number_in n _ = true
@@ -82,6 +86,7 @@ number_in n _ = true
 abbrev pub number_formed : ℕ → Ty → Bool
 number_formed n t = number_in n (out-Ty t)
 
+-- elements at a form of a type: each at the element type, where it is an array's
 abbrev pub elements_in : List (Ty → Bool) → Ty-F Ty → Bool
 elements_in elements (Ty-F.Array count element) = list_all (λ formed. formed element) elements
 elements_in elements _ = true
@@ -92,10 +97,12 @@ fields_formed [] ts = true
 fields_formed (field ∷ fields) [] = true
 fields_formed (field ∷ fields) (t ∷ ts) = field t && fields_formed fields ts
 
+-- fields at a form of a type: each at its own type, where it is a struct's
 abbrev pub fields_in : List (Ty → Bool) → Ty-F Ty → Bool
 fields_in fields (Ty-F.Struct packed ts) = fields_formed fields ts
 fields_in fields _ = true
 
+-- one form of a constant at a type, where it is known at which types the constants inside it are formed
 abbrev pub constant_step : Counts → Const-F (Ty → Bool) → Ty → Bool
 constant_step c Const-F.Zero t = true
 constant_step c (Const-F.Int n) t = number_formed n (resolved c.types t)
@@ -106,6 +113,7 @@ constant_step c (Const-F.Address place) t = place_formed c place
 constant_step c (Const-F.AddressAsInt place) t = place_formed c place
 constant_step c (Const-F.IntAsPtr n) t = true
 
+-- a constant at a type: each integer is below 2 to the power of its type's width, and each address is formed
 abbrev pub constant_formed : Counts → Const → Ty → Bool
 constant_formed c = fold-Const (Ty → Bool) (constant_step c)
 
@@ -114,6 +122,7 @@ abbrev pub alignment_formed : Option ℕ → Bool
 alignment_formed None = true
 alignment_formed (Some n) = is_alignment n
 
+-- a global: its type, its initialiser at this type, and its alignment
 abbrev pub global_formed : Counts → GlobalVar → Bool
 global_formed c g = type_formed (length c.types) g.ty && (constant_formed c g.init g.ty && alignment_formed g.align)
 
@@ -125,6 +134,7 @@ pub record Within : Type 0 where
   pub registers : ℕ
   pub labels : ℕ
 
+-- a type in a function of the module
 abbrev pub a_type_formed : Within → Ty → Bool
 a_type_formed f t = type_formed (length f.counts.types) t
 
@@ -133,30 +143,37 @@ abbrev pub operand_formed : Within → Ty → Operand → Bool
 operand_formed f t (operand.Reg r) = nat_lt r f.registers
 operand_formed f t (operand.Const c) = constant_formed f.counts c t
 
--- an operand with its type, and one with its width
+-- an operand with its type
 abbrev pub value_formed : Within → Ty × Operand → Bool
 value_formed f x = a_type_formed f x.0 && operand_formed f x.0 x.1
 
+-- an operand with the width of its integer type
 abbrev pub integer_formed : Within → ℕ × Operand → Bool
 integer_formed f x = is_width x.0 && operand_formed f (ty.Int x.0) x.1
 
+-- a label of the function
 abbrev pub label_formed : Within → ℕ → Bool
 label_formed f l = nat_lt l f.labels
 
+-- a pair of a phi: its value at the phi's type, and its label
 abbrev pub pair_formed : Within → Ty → Operand × ℕ → Bool
 pair_formed f t pair = operand_formed f t pair.0 && label_formed f pair.1
 
+-- a case of a switch: a number of the switch's width, and a label
 abbrev pub case_formed : Within → ℕ → ℕ × ℕ → Bool
 case_formed f w case = is_below w case.0 && label_formed f case.1
 
+-- the count of an alloca, where it has one
 abbrev pub count_formed : Within → Option (ℕ × Operand) → Bool
 count_formed f None = true
 count_formed f (Some count) = integer_formed f count
 
+-- the value of a return, where it has one
 abbrev pub returned_formed : Within → Option (Ty × Operand) → Bool
 returned_formed f None = true
 returned_formed f (Some x) = value_formed f x
 
+-- an operation: its widths, types, operands, labels and alignments
 abbrev pub op_formed : Within → Op → Bool
 op_formed f (op.Binary o w a b) = is_width w && (operand_formed f (ty.Int w) a && operand_formed f (ty.Int w) b)
 op_formed f (op.Compare p t a b) = a_type_formed f t && (operand_formed f t a && operand_formed f t b)
@@ -180,20 +197,25 @@ abbrev pub register_formed : Within → Option ℕ → Bool
 register_formed f None = true
 register_formed f (Some r) = nat_lt r f.registers
 
+-- an instruction: the register that it assigns, and its operation
 abbrev pub instr_formed : Within → Instr → Bool
 instr_formed f i = register_formed f i.result && op_formed f i.op
 
+-- a block: its label and its instructions
 abbrev pub block_formed : Within → Block → Bool
 block_formed f b = label_formed f b.label && list_all (instr_formed f) b.instrs
 
 -- ---- functions and modules
 
+-- a parameter: its register and its type
 abbrev pub param_formed : Within → ℕ × Ty → Bool
 param_formed f p = nat_lt p.0 f.registers && a_type_formed f p.1
 
+-- the counts of a function, in a module with these
 abbrev pub within : Counts → Function → Within
 within c f = record { counts = c; registers = length f.registers; labels = length f.labels }
 
+-- a function: its result, its parameters and its blocks
 abbrev pub function_formed : Counts → Function → Bool
 function_formed c f = result_formed (length c.types) f.result && (list_all (param_formed (within c f)) f.params && list_all (block_formed (within c f)) f.blocks)
 

@@ -1,7 +1,11 @@
 pub mod Externals
 pub mod Formed
 pub mod Functions
+pub mod Instructions
+pub mod Left
 pub mod Marks
 pub mod Named
+pub mod SameOperands
+pub mod SameTypes
 pub mod Scalars
 pub mod Widths

@@ -10,6 +10,7 @@ use Rattle.no_module.specs.Widths.{is_width}
 abbrev pub integer : ℕ → Option Scalar
 integer w = if is_width w then Some (scalar.Int w) else None
 
+-- a type of this form as one of values
 abbrev pub scalar_step : Ty-F Ty → Option Scalar
 scalar_step (Ty-F.Int w) = integer w
 scalar_step Ty-F.Ptr = Some scalar.Ptr
@@ -23,14 +24,17 @@ scalar_of t = scalar_step (out-Ty t)
 abbrev pub is_scalar : Ty → Bool
 is_scalar t = is_some (scalar_of t)
 
+-- the integer type of so many bits
 abbrev pub is_integer : ℕ → Scalar → Bool
 is_integer w (scalar.Int v) = w == v
 is_integer w scalar.Ptr = false
 
+-- the type ptr
 abbrev pub is_pointer : Scalar → Bool
 is_pointer (scalar.Int w) = false
 is_pointer scalar.Ptr = true
 
+-- two types of values are the same
 abbrev pub same_scalar : Scalar → Scalar → Bool
 same_scalar (scalar.Int w) s = is_integer w s
 same_scalar scalar.Ptr s = is_pointer s
@@ -45,10 +49,12 @@ abbrev pub agree : Option Scalar → Option Scalar → Bool
 agree None t = false
 agree (Some s) t = is_of s t
 
+-- the form of void
 abbrev pub void_step : Ty-F Ty → Bool
 void_step Ty-F.Void = true
 void_step _ = false
 
+-- the type void
 abbrev pub is_void : Ty → Bool
 is_void t = void_step (out-Ty t)
 

@@ -14,6 +14,7 @@ abbrev pub stated_or : Option ℕ → ℕ → ℕ
 stated_or (Some align) other = align
 stated_or None other = other
 
+-- the alignment of a global: the stated one, or else that of its type
 abbrev pub global_align : Layout → List Extent → GlobalVar → ℕ
 global_align l sizes g = stated_or g.align (type_align l sizes g.ty)
 
@@ -35,6 +36,7 @@ end_with l sizes kind end g = if same_kind kind g.constant then place_behind l s
 abbrev pub end_of : Layout → List Extent → Bool → ℕ → List GlobalVar → ℕ
 end_of l sizes kind = fold (end_with l sizes kind)
 
+-- where the constants of a module end
 abbrev pub constants_end_of : Layout → List Extent → List GlobalVar → ℕ
 constants_end_of l sizes globals = end_of l sizes true constants_start globals
 
@@ -42,6 +44,7 @@ constants_end_of l sizes globals = end_of l sizes true constants_start globals
 abbrev pub globals_start_of : Layout → List Extent → List GlobalVar → ℕ
 globals_start_of l sizes globals = next_multiple_of (constants_end_of l sizes globals) 65536
 
+-- where the constants and the writable globals of a module end
 abbrev pub regions_of : Layout → List Extent → List GlobalVar → Regions
 regions_of l sizes globals = record {
   constants_end = constants_end_of l sizes globals;

@@ -17,9 +17,10 @@ use Rattle.no_ir.specs.declared.function.Function.{Function}
 use Rattle.no_ir.specs.declared.function.Module.{Module}
 use Rattle.no_module.specs.Functions.{is_declared}
 use Rattle.no_module.specs.Scalars.{void_step, is_void}
-use Rattle.no_verify_paths.specs.Paths.{code_of, labels_of, IsAssigned}
+use Rattle.no_verify_paths.specs.Paths.{code_of, IsAssigned}
 use Rattle.no_ir.specs.declared.function.Role.TheVariants.{Source}
 use Rattle.no_layout.specs.Sizes.{sizes_of}
+use Rattle.no_module.specs.Instructions.{exits_of, is_terminator}
 use Rattle.no_module.specs.Formed.{counts_of, within, result_formed, param_formed, instr_formed, block_formed, function_formed, IsFormed}
 use Rattle.no_room.specs.Accepted.{Accepted}
 use Rattle.no_room.specs.Fits.{have_room}
@@ -38,7 +39,7 @@ use Rattle.no_semantics.specs.Starts.{main_from}
 use Rattle.no_semantics.specs.States.{function_at}
 use Rattle.no_semantics.specs.Values.{Program, width_of}
 use Rattle.no_progress.specs.Begin.{HasMain}
-use Rattle.no_progress.specs.Proper.{Each, Idle, OpFits, IsTarget, IsKnown, IsProper, IsSafe, is_last}
+use Rattle.no_progress.specs.Proper.{Each, Idle, OpFits, IsTarget, IsKnown, IsProper, IsSafe}
 use Rattle.no_progress.proofs.Frames.{cases, found}
 use Rattle.no_safe.proofs.Lists.{and_one, and_two, not_of, placed_none, unless_none, whole_none, at_none, all_at, none_at, taken_at}
 use Rattle.no_safe.proofs.Blocks.{code_is, IsEnded, block_ended, in_block, entry_plain, phis_lead}
@@ -48,12 +49,12 @@ use Rattle.no_safe.proofs.Edges.{IsShaped, PhisTake, target}
 pub record IsTyped (p : Program) (g : Function) (width : ℕ → Option ℕ) : Type 0 where
   pub params : Each (λ (q : ℕ × Ty). (q.0 < length g.registers) × (width q.0 ≡ Some (width_of p.layout q.1))) g.params
   pub phis : PhisTake p g width
-  pub fits : (b k : ℕ) (i : Instr) → slice_get (code_of g b) k ≡ Some i → ((l : ℕ) → Contains (labels_of i.op) l → IsTarget p g width b l) → OpFits p g width b i.result i.op
-  pub idle : (b k : ℕ) (i : Instr) → slice_get (code_of g b) k ≡ Some i → is_last i.op ≡ true → Idle width i.result
+  pub fits : (b k : ℕ) (i : Instr) → slice_get (code_of g b) k ≡ Some i → ((l : ℕ) → Contains (exits_of i.op) l → IsTarget p g width b l) → OpFits p g width b i.result i.op
+  pub idle : (b k : ℕ) (i : Instr) → slice_get (code_of g b) k ≡ Some i → is_terminator i.op ≡ true → Idle width i.result
 
 -- what goes on names no label
-no_labels : (o : Op) → is_last o ≡ false → labels_of o ≡ []
-unfolding labels_of
+no_labels : (o : Op) → is_terminator o ≡ false → exits_of o ≡ []
+unfolding exits_of
 no_labels (op.Br l) e = absurd (true≢false e)
 no_labels (op.CondBr c l k) e = absurd (true≢false e)
 no_labels (op.Switch w a l cs) e = absurd (true≢false e)
@@ -63,11 +64,11 @@ module _ (p : Program) (m : Module) (g : Function) (s : IsShaped m g) (width : �
   ended : (b : ℕ) (block : Block) → slice_get g.blocks b ≡ Some block → IsEnded (code_of g b)
   ended b block is = subst IsEnded (sym (code_is g b block is)) (block_ended g s.ending b block is)
 
-  targets : (b k : ℕ) (i : Instr) → slice_get (code_of g b) k ≡ Some i → (l : ℕ) → Contains (labels_of i.op) l → IsTarget p g width b l
+  targets : (b k : ℕ) (i : Instr) → slice_get (code_of g b) k ≡ Some i → (l : ℕ) → Contains (exits_of i.op) l → IsTarget p g width b l
   targets b k i at l c = ⊎_elim
       (λ ends. target p m g s width t.phis b k i at ends l c)
-      (λ goes. absurd (let lt : c.0 < length (labels_of i.op) = c.1 in let none : length (labels_of i.op) ≡ 0 = ap length (no_labels i.op goes) in omega (arith, lt, none)))
-      (cases (is_last i.op))
+      (λ goes. absurd (let lt : c.0 < length (exits_of i.op) = c.1 in let none : length (exits_of i.op) ≡ 0 = ap length (no_labels i.op goes) in omega (arith, lt, none)))
+      (cases (is_terminator i.op))
 
   pub proper : IsAssigned g → IsProper p g
   proper paths = record {

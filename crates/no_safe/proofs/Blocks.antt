@@ -10,10 +10,9 @@ use Rattle.no_ir.specs.declared.instruction.Instr.{Instr}
 use Rattle.no_ir.specs.declared.function.Block.{Block}
 use Rattle.no_ir.specs.declared.function.Function.{Function}
 use Rattle.no_verify_paths.specs.Paths.{code_in, code_of}
-use Rattle.no_verify_structure.specs.Parts.{is_terminator, is_phi as is_phi', pair_labels}
+use Rattle.no_module.specs.Instructions.{is_phi, is_terminator, pair_labels}
 use Rattle.no_verify_structure.specs.Ending.{first_terminator, ending_fault, block_ending, function_ending}
 use Rattle.no_verify_structure.specs.Phis.{same_labels, pairs_agree, op_meets, phi_allowed, predecessors, block_phis, function_phis}
-use Rattle.no_progress.specs.Proper.{is_phi, is_last}
 use Rattle.no_progress.proofs.Frames.{cases}
 use Rattle.no_safe.proofs.Lists.{and_one, and_two, not_of, not_not, at_none, Broken, break_none, break_some, all_at, taken_at}
 
@@ -38,19 +37,11 @@ code_is g b block is = ap code_in is
 
 -- ---- ends
 
-pub same_last : (o : Op) → is_last o ≡ is_terminator o
-same_last (op.Br l) = refl
-same_last _ = refl
-
-pub same_phi : (o : Op) → is_phi o ≡ is_phi' o
-same_phi (op.Phi t pairs) = refl
-same_phi _ = refl
-
 -- a block has a last instruction, which is the only one that ends a block
 pub record IsEnded (code : List Instr) : Type 0 where
   pub some : 0 < length code
-  pub inner : (k : ℕ) (i : Instr) → slice_get code k ≡ Some i → is_last i.op ≡ false → k + 1 < length code
-  pub last : (k : ℕ) (i : Instr) → slice_get code k ≡ Some i → is_last i.op ≡ true → k + 1 ≡ length code
+  pub inner : (k : ℕ) (i : Instr) → slice_get code k ≡ Some i → is_terminator i.op ≡ false → k + 1 < length code
+  pub last : (k : ℕ) (i : Instr) → slice_get code k ≡ Some i → is_terminator i.op ≡ true → k + 1 ≡ length code
 
 module _ (code : List Instr) where
   ended_at : (n : ℕ) → Broken (λ i (instr : Instr). not (is_terminator instr.op)) code 0 n → n + 1 ≡ length code → IsEnded code
@@ -63,7 +54,7 @@ module _ (code : List Instr) where
     last = λ k i at ends'. ⊎_elim
         (λ same. omega (arith, e, same))
         (λ less. let p = place in
-        absurd (true≢false (sym ends' ∙ same_last i.op ∙ not_of (is_terminator i.op) (b.before k k i (omega (arith, less, p)) at (omega arith)))))
+        absurd (true≢false (sym ends' ∙ not_of (is_terminator i.op) (b.before k k i (omega (arith, less, p)) at (omega arith)))))
         (eq-or-lt_of_le (within k i at));
   }
     where
@@ -73,10 +64,10 @@ module _ (code : List Instr) where
       within : (k : ℕ) (i : Instr) → slice_get code k ≡ Some i → k ≤ n
       within k i at = let lt = slice_get_within code k i at in omega (arith, e, lt)
 
-      ends : (k : ℕ) (i : Instr) → slice_get code k ≡ Some i → k ≡ n → is_last i.op ≡ true
+      ends : (k : ℕ) (i : Instr) → slice_get code k ≡ Some i → k ≡ n → is_terminator i.op ≡ true
       ends k i at same =
           let element : b.element ≡ i = same_Some b.element i (sym b.at ∙ ap (slice_get code) (place ∙ sym same) ∙ at) in
-          same_last i.op ∙ not_not (is_terminator i.op) (subst (λ (x : Instr). not (is_terminator x.op) ≡ false) element b.breaks)
+          not_not (is_terminator i.op) (subst (λ (x : Instr). not (is_terminator x.op) ≡ false) element b.breaks)
 
   ended_by : (o : Option ℕ) → first_terminator code ≡ o → ending_fault (length code) o ≡ None → IsEnded code
   ended_by None is e = absurd (none-some (length code - 1) (sym e))
@@ -107,7 +98,7 @@ entry_plain g e i at =
     let h = in_block g 0 0 i at in
     false_from_ne_true (is_phi i.op) (λ phi.
     let allowed = allowed_phi (predecessors g h.block.label) (phi_allowed 0 (take 0 h.block.instrs)) i.op (phi_meets g e 0 h.block h.is 0 i h.at) phi in
-    true≢false (sym (and_one (nat_lt 0 0) (list_all (λ (i : Instr). is_phi' i.op) (take 0 h.block.instrs)) allowed)))
+    true≢false (sym (and_one (nat_lt 0 0) (list_all (λ (i : Instr). is_phi i.op) (take 0 h.block.instrs)) allowed)))
 
 -- before a phi stands a phi
 pub phis_lead : (g : Function) → function_phis g ≡ None → (b k : ℕ) (i j : Instr) → slice_get (code_of g b) k ≡ Some i → slice_get (code_of g b) (k + 1) ≡ Some j → is_phi j.op ≡ true → is_phi i.op ≡ true
@@ -115,5 +106,5 @@ phis_lead g e b k i j at next phi =
     let h = in_block g b (k + 1) j next in
     let before : slice_get h.block.instrs k ≡ Some i = ap (λ (l : List Instr). slice_get l k) (sym (code_is g b h.block h.is)) ∙ at in
     let allowed = allowed_phi (predecessors g h.block.label) (phi_allowed b (take (k + 1) h.block.instrs)) j.op (phi_meets g e b h.block h.is (k + 1) j h.at) phi in
-    let all = and_two (nat_lt 0 b) (list_all (λ (i : Instr). is_phi' i.op) (take (k + 1) h.block.instrs)) allowed in
-    same_phi i.op ∙ all_at (λ (i : Instr). is_phi' i.op) (take (k + 1) h.block.instrs) all k i (taken_at (k + 1) h.block.instrs k i (omega arith) before)
+    let all = and_two (nat_lt 0 b) (list_all (λ (i : Instr). is_phi i.op) (take (k + 1) h.block.instrs)) allowed in
+    all_at (λ (i : Instr). is_phi i.op) (take (k + 1) h.block.instrs) all k i (taken_at (k + 1) h.block.instrs k i (omega arith) before)

@@ -13,17 +13,18 @@ use Rattle.no_ir.specs.declared.instruction.Instr.{Instr}
 use Rattle.no_ir.specs.declared.function.Block.{Block}
 use Rattle.no_ir.specs.declared.function.Function.{Function}
 use Rattle.no_ir.specs.declared.function.Module.{Module}
-use Rattle.no_verify_paths.specs.Paths.{code_of, first_from, block_of, labels_in, labels_of, exits, successors}
+use Rattle.no_verify_paths.specs.Paths.{code_of, first_from, block_of, exits, successors}
 use Rattle.no_verify_structure.specs.Ending.{function_ending}
 use Rattle.no_verify_structure.specs.Finding.{first_at, block_break}
 use Rattle.no_verify_structure.specs.Names.{is_in, blocks_labels, labels_defined, registers_of}
-use Rattle.no_verify_structure.specs.Parts.{exits_of, operands_keep, pair_labels, labels_of as named_labels}
-use Rattle.no_verify_structure.specs.Phis.{exits_in, block_exits, leads_to, predecessors, same_labels, pairs_agree, op_meets, phi_allowed, function_phis}
+use Rattle.no_module.specs.Instructions.{exits_in, exits_of, is_terminator, labels_of, pair_labels}
+use Rattle.no_verify_structure.specs.Parts.{operands_keep}
+use Rattle.no_verify_structure.specs.Phis.{block_exits, leads_to, predecessors, same_labels, pairs_agree, op_meets, phi_allowed, function_phis}
 use Rattle.no_verify_structure.specs.Twice.{result_twice, registers_before, block_twice}
 use Rattle.no_verify_structure.specs.Unknown.{place_known, instr_known, function_unknown}
 use Rattle.no_semantics.specs.Control.{block_from, taken}
 use Rattle.no_semantics.specs.Values.{Program}
-use Rattle.no_progress.specs.Proper.{PhiFits, FrontFits, EdgeFits, IsTarget, is_last}
+use Rattle.no_progress.specs.Proper.{PhiFits, FrontFits, EdgeFits, IsTarget}
 use Rattle.no_progress.proofs.Frames.{cases, or_left, or_right}
 use Rattle.no_safe.proofs.Lists.{and_one, and_two, at_none, break_none, any_at, contained, contains_kept}
 use Rattle.no_safe.proofs.Blocks.{InBlock, in_block, code_is, block_ended, phi_meets}
@@ -104,15 +105,9 @@ label_kept test (x ∷ xs) (suc b) from at e = behind (test x) (label_kept test 
 
 -- ---- labels of a terminator
 
-same_exits : (o : Op) → labels_of o ≡ exits_of o
-unfolding labels_of
-same_exits (op.Br l) = refl
-same_exits (op.CondBr c l k) = refl
-same_exits (op.Switch w a l cs) = refl
-same_exits _ = refl
-
 -- each label that leads on is named
-exits_named : (labels : List ℕ) (o : Op) → list_all (is_in labels) (named_labels o) ≡ true → list_all (is_in labels) (exits_of o) ≡ true
+exits_named : (labels : List ℕ) (o : Op) → list_all (is_in labels) (labels_of o) ≡ true → list_all (is_in labels) (exits_of o) ≡ true
+unfolding exits_of
 exits_named labels (op.Phi t pairs) e = refl
 exits_named labels (op.Br l) e = e
 exits_named labels (op.CondBr c l k) e = e
@@ -175,10 +170,10 @@ module _ (p : Program) (m : Module) (g : Function) (s : IsShaped m g) where
       not_twice (is_in (blocks_labels (take b g.blocks)) from.label) (result_twice (registers_before g b) from.instrs) (at_none (block_twice g) 0 g.blocks s.once b b from is (omega arith)) in
       first_home 0 g.blocks b b from is new (omega arith)
 
-  named : (b k : ℕ) (block : Block) (i : Instr) → slice_get g.blocks b ≡ Some block → slice_get block.instrs k ≡ Some i → list_all (is_in (labels_defined g)) (named_labels i.op) ≡ true
+  named : (b k : ℕ) (block : Block) (i : Instr) → slice_get g.blocks b ≡ Some block → slice_get block.instrs k ≡ Some i → list_all (is_in (labels_defined g)) (labels_of i.op) ≡ true
   named b k block i is at =
       let keeps : Instr → Bool = instr_known m (registers_of g) (labels_defined g) in
-      and_two (operands_keep (is_in (registers_of g)) (place_known m) i.op) (list_all (is_in (labels_defined g)) (named_labels i.op))
+      and_two (operands_keep (is_in (registers_of g)) (place_known m) i.op) (list_all (is_in (labels_defined g)) (labels_of i.op))
       (break_none (λ j. keeps) 0 block.instrs (at_none (λ c. block_break keeps) 0 g.blocks s.known b b block is (omega arith)) k k i at (omega arith))
 
   -- a block that leads to a label is one of its predecessors
@@ -199,7 +194,7 @@ module _ (p : Program) (m : Module) (g : Function) (s : IsShaped m g) where
       taken_found pairs l (all_in (is_in (pair_labels pairs)) (predecessors g block.label) l
       (and_two (list_all (is_in (predecessors g block.label)) (pair_labels pairs)) (list_all (is_in (pair_labels pairs)) (predecessors g block.label)) same) before)
 
-  pub target : (width : ℕ → Option ℕ) → PhisTake p g width → (b k : ℕ) (i : Instr) → slice_get (code_of g b) k ≡ Some i → is_last i.op ≡ true → (l : ℕ) → Contains (labels_of i.op) l
+  pub target : (width : ℕ → Option ℕ) → PhisTake p g width → (b k : ℕ) (i : Instr) → slice_get (code_of g b) k ≡ Some i → is_terminator i.op ≡ true → (l : ℕ) → Contains (exits_of i.op) l
       → IsTarget p g width b l
   unfolding block_of successors exits
   target width phi b k i at ends l c =
@@ -208,14 +203,13 @@ module _ (p : Program) (m : Module) (g : Function) (s : IsShaped m g) where
       let last : k + 1 ≡ length h.block.instrs = (block_ended g s.ending b h.block h.is).last k i h.at ends in
       let place : k ≡ length h.block.instrs - 1 = omega (arith, last) in
       let final : slice_get h.block.instrs (length h.block.instrs - 1) ≡ Some i = ap (slice_get h.block.instrs) (sym place) ∙ h.at in
-      let named_at : (j : ℕ) × (slice_get (labels_of i.op) j ≡ Some l) = contained (labels_of i.op) l c in
-      let exit_at : slice_get (exits_of i.op) named_at.0 ≡ Some l = ap (λ (xs : List ℕ). slice_get xs named_at.0) (sym (same_exits i.op)) ∙ named_at.1 in
-      let exit : is_in (exits_of i.op) l ≡ true = is_in_at (exits_of i.op) named_at.0 l exit_at in
+      let named_at : (j : ℕ) × (slice_get (exits_of i.op) j ≡ Some l) = contained (exits_of i.op) l c in
+      let exit : is_in (exits_of i.op) l ≡ true = is_in_at (exits_of i.op) named_at.0 l named_at.1 in
       let to : Labelled 0 g.blocks l = label_found 0 g.blocks l (all_in (is_in (labels_defined g)) (exits_of i.op) l (exits_named (labels_defined g) i.op (named b k h.block i h.is h.at)) exit) in
       let to_place : to.number ≡ to.place = let e = to.at_place in omega (arith, e) in
       let block_is : slice_get g.blocks to.number ≡ Some to.block = ap (slice_get g.blocks) to_place ∙ to.at in
-      let exits_are : labels_in (slice_get (code_of g b) (length (code_of g b) - 1)) ≡ labels_of i.op =
-      ap (λ (xs : List Instr). labels_in (slice_get xs (length xs - 1))) code ∙ ap labels_in final in
+      let exits_are : exits_in (slice_get (code_of g b) (length (code_of g b) - 1)) ≡ exits_of i.op =
+      ap (λ (xs : List Instr). exits_in (slice_get xs (length xs - 1))) code ∙ ap exits_in final in
       let leads : is_in (block_exits h.block) to.block.label ≡ true = ap (λ (x : ℕ). is_in (block_exits h.block) x) to.label ∙ ap (λ (o : Option Instr). is_in (exits_in o) l) final ∙ exit in
       let before : is_in (predecessors g to.block.label) h.block.label ≡ true = precedes b to.block.label h.block h.is (s.labels to.number to.block block_is) leads in
       record {

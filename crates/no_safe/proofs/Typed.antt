@@ -7,17 +7,18 @@ use Rattle.no_ir.specs.declared.instruction.Op.TheVariants as op
 use Rattle.no_ir.specs.declared.instruction.Instr.{Instr}
 use Rattle.no_ir.specs.declared.function.Function.{Function}
 use Rattle.no_ir.specs.declared.function.Role.TheVariants.{Source}
+use Rattle.no_module.specs.Instructions.{exits_of, is_terminator}
 use Rattle.no_module.specs.Functions.{is_declared}
 use Rattle.no_module.specs.Scalars.{is_scalar, scalar_of}
 use Rattle.no_verify_types.specs.Named.{is_named, module_names}
 use Rattle.no_verify_types.specs.Registers.{register_types, result_of}
 use Rattle.no_verify_types.specs.Typing.{op_typed}
-use Rattle.no_verify_paths.specs.Paths.{code_of, labels_of}
+use Rattle.no_verify_paths.specs.Paths.{code_of}
 use Rattle.no_semantics.specs.Control.{taken}
 use Rattle.no_semantics.specs.States.{function_at}
 use Rattle.no_semantics.specs.Taken.{is_callable}
 use Rattle.no_semantics.specs.Values.{Program, width_of}
-use Rattle.no_progress.specs.Proper.{Each, Idle, IsKnown, IsTarget, OpFits, PhiFits, is_last}
+use Rattle.no_progress.specs.Proper.{Each, Idle, IsKnown, IsTarget, OpFits, PhiFits}
 use Rattle.no_safe.specs.Widths.{width_of_register, width_of_type}
 use Rattle.no_safe.proofs.Blocks.{in_block}
 use Rattle.no_safe.proofs.Lists.{all_at, each_of}
@@ -37,7 +38,7 @@ module _ (p : Program) (judged : IsJudged p) where
 
   module _ (k : ℕ) (g : Function) (is : function_at p k ≡ Some g) where
     -- an instruction fits where each label that it names leads to a target
-    pub op_fits : (b j : ℕ) (i : Instr) → slice_get (code_of g b) j ≡ Some i → ((l : ℕ) → Contains (labels_of i.op) l → IsTarget p g (width_of_register p.layout g) b l)
+    pub op_fits : (b j : ℕ) (i : Instr) → slice_get (code_of g b) j ≡ Some i → ((l : ℕ) → Contains (exits_of i.op) l → IsTarget p g (width_of_register p.layout g) b l)
         → OpFits p g (width_of_register p.layout g) b i.result i.op
     op_fits b j i at targets =
         let in' = in_block g b j i at in
@@ -53,7 +54,7 @@ module _ (p : Program) (judged : IsJudged p) where
         (λ r into. let d = result_defined p judged k g is b in'.block j i r in'.is in'.at into in (d.0, d.1 ∙ ap result_of e)) l o takes
 
     -- nothing reads the result of an instruction that ends its block
-    pub last_idle : (b j : ℕ) (i : Instr) → slice_get (code_of g b) j ≡ Some i → is_last i.op ≡ true → Idle (width_of_register p.layout g) i.result
+    pub last_idle : (b j : ℕ) (i : Instr) → slice_get (code_of g b) j ≡ Some i → is_terminator i.op ≡ true → Idle (width_of_register p.layout g) i.result
     last_idle b j i at last =
         let in' = in_block g b j i at in
         last_gives p g b i.result known i.op last (λ r into. result_defined p judged k g is b in'.block j i r in'.is in'.at into)

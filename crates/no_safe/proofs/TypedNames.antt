@@ -3,8 +3,6 @@ use Rattle.std.proofs.Common.{◌≡◌, ℕ, zero, suc, ◌+◌, Bool, true, fa
 use Rattle.std.proofs.lemmas.Bool.{false≢true}
 use Rattle.std.proofs.lemmas.Option.{none-some, same_Some}
 use Rattle.std.specs.List.{list_any}
-use Rattle.no_ir.specs.declared.types.Ty.{Ty}
-use Rattle.no_ir.specs.declared.instruction.Operand.{Operand}
 use Rattle.no_ir.specs.declared.instruction.Op.{Op}
 use Rattle.no_ir.specs.declared.instruction.Op.TheVariants as op
 use Rattle.no_ir.specs.declared.instruction.Instr.{Instr}
@@ -16,6 +14,7 @@ use Rattle.no_ir.specs.declared.function.Role.TheVariants.{Source}
 use Rattle.no_module.specs.declared.external.External.{External}
 use Rattle.no_module.specs.Externals.{external_of, external_typed, is_external}
 use Rattle.no_module.specs.Functions.{is_declared}
+use Rattle.no_module.specs.Instructions.{argument_operands}
 use Rattle.no_verify_types.specs.Named.{block_names, first_unknown, function_names, global_names, is_named, is_unknown, module_names, op_names, operand_names}
 use Rattle.no_verify_types.specs.Places.{at_function, external_fault_of}
 use Rattle.no_verify_types.specs.Typing.{direct}
@@ -68,7 +67,7 @@ callee_wider false k xs e = e
 
 op_wider : (k : ℕ) (o : Op) → list_any (nat_eq k) (op_taken o) ≡ true → list_any (nat_eq k) (op_names o) ≡ true
 op_wider k (op.Call t callee args) e =
-    let rest = flat_map (λ (arg : Ty × Operand). operand_names arg.1) args in
+    let rest = flat_map operand_names (argument_operands args) in
     among_parts k (callee_taken callee) rest e (λ here. among_left k (operand_names callee) rest (callee_wider (is_some (direct callee)) k (operand_names callee) here)) (λ later. among_right k (operand_names callee) rest later)
 op_wider k _ e = e
 

@@ -11,6 +11,7 @@ use Rattle.no_ir.specs.declared.instruction.Operand.{Operand}
 use Rattle.no_ir.specs.declared.instruction.Op.{Op}
 use Rattle.no_ir.specs.declared.instruction.Op.TheVariants as op
 use Rattle.no_ir.specs.declared.function.Function.{Function}
+use Rattle.no_module.specs.Instructions.{argument_operands, exits_of, is_terminator}
 use Rattle.no_module.specs.declared.scalar.Scalar.{Scalar}
 use Rattle.no_module.specs.declared.scalar.Scalar.TheVariants as scalar
 use Rattle.no_module.specs.Externals.{declared_external}
@@ -19,12 +20,11 @@ use Rattle.no_verify_types.specs.Addresses.{indices_lead}
 use Rattle.no_verify_types.specs.Named.{is_named, module_names, op_names, operand_names}
 use Rattle.no_verify_types.specs.Registers.{register_types, result_of}
 use Rattle.no_verify_types.specs.Typing.{args_match, argument_fits, both_fit, callee_fits, calls, case_numbers, cases_fit, converts, count_fits, direct, integer_fits, is_passed, numbers_stated, op_typed, operand_fits, returns, stated_field}
-use Rattle.no_verify_paths.specs.Paths.{labels_of}
 use Rattle.no_semantics.specs.Calls.{are_passed, has_type}
 use Rattle.no_semantics.specs.Control.{taken}
 use Rattle.no_semantics.specs.States.{function_at}
 use Rattle.no_semantics.specs.Values.{Program, width_of}
-use Rattle.no_progress.specs.Proper.{CalleeFits, CountFits, Idle, IsDirect, IsKnown, IsTarget, OpFits, PhiFits, Reads, ReadsOf, ReturnFits, bits, is_last}
+use Rattle.no_progress.specs.Proper.{CalleeFits, CountFits, Idle, IsDirect, IsKnown, IsTarget, OpFits, PhiFits, Reads, ReadsOf, ReturnFits, bits}
 use Rattle.no_safe.specs.Widths.{width_of_register}
 use Rattle.no_safe.proofs.Lists.{each_of}
 use Rattle.no_safe.proofs.TypedConstants.{callee_named}
@@ -63,7 +63,7 @@ module _ (p : Program) (g : Function) (b : ℕ) (into : Option ℕ) (known : (k 
   AreNamed o = (k : ℕ) → list_any (nat_eq k) (op_names o) ≡ true → is_named (module_names p.«module») k ≡ true
 
   abbrev AreTargets : Op → Type 0
-  AreTargets o = (l : ℕ) → Contains (labels_of o) l → IsTarget p g (width_of_register p.layout g) b l
+  AreTargets o = (l : ℕ) → Contains (exits_of o) l → IsTarget p g (width_of_register p.layout g) b l
 
   abbrev Typed : Op → Type 0
   Typed o = op_typed p.«module» p.role g.result (register_types g) o ≡ true
@@ -156,7 +156,7 @@ module _ (p : Program) (g : Function) (b : ℕ) (into : Option ℕ) (known : (k 
       → CalleeFits p (width_of_register p.layout g) t callee args o
   callee_is t callee args None is named e = reads_pointer p g callee e
   callee_is t callee args (Some k) is named e =
-      direct_fits t args k (function_at p k) refl (named k (among_left k (operand_names callee) (flat_map (λ (arg : Ty × Operand). operand_names arg.1) args) (callee_named callee k is))) e
+      direct_fits t args k (function_at p k) refl (named k (among_left k (operand_names callee) (flat_map operand_names (argument_operands args)) (callee_named callee k is))) e
 
   call : (t : Ty) (callee : Operand) (args : List (Ty × Operand)) → Typed (op.Call t callee args) → AreNamed (op.Call t callee args) → Defines g into (scalar_of t) → Fits (op.Call t callee args)
   unfolding op_typed
@@ -173,15 +173,15 @@ module _ (p : Program) (g : Function) (b : ℕ) (into : Option ℕ) (known : (k 
   -- ---- terminators
 
   branch : (l : ℕ) → AreTargets (op.Br l) → Fits (op.Br l)
-  unfolding labels_of
+  unfolding exits_of
   branch l targets = targets l (contains_at (l ∷ []) 0 l refl)
 
   conditional : (c : Operand) (l k : ℕ) → Typed (op.CondBr c l k) → AreTargets (op.CondBr c l k) → Fits (op.CondBr c l k)
-  unfolding op_typed labels_of
+  unfolding op_typed exits_of
   conditional c l k e targets = (reads_integer p g 1 c e, targets l (contains_at (l ∷ k ∷ []) 0 l refl), targets k (contains_at (l ∷ k ∷ []) 1 k refl))
 
   switched : (w : ℕ) (x : Operand) (l : ℕ) (cases : List (ℕ × ℕ)) → Typed (op.Switch w x l cases) → AreTargets (op.Switch w x l cases) → Fits (op.Switch w x l cases)
-  unfolding op_typed labels_of
+  unfolding op_typed exits_of
   switched w x l cases e targets = (
     reads_integer p g w x (and_parts (operand_fits p.«module» p.role (register_types g) (integer w) x) (cases_fit w (case_numbers cases)) e).0,
     targets l (contains_at (l ∷ map (λ (case : ℕ × ℕ). case.1) cases) 0 l refl),
@@ -246,7 +246,7 @@ module _ (p : Program) (g : Function) (b : ℕ) (into : Option ℕ) (known : (k 
 
   -- ---- an instruction that ends its block gives nothing
 
-  pub last_gives : (o : Op) → is_last o ≡ true → Defines g into (result_of o) → Idle (width_of_register p.layout g) into
+  pub last_gives : (o : Op) → is_terminator o ≡ true → Defines g into (result_of o) → Idle (width_of_register p.layout g) into
   last_gives (op.Br l) e d = gives_nothing p.layout g into d
   last_gives (op.CondBr c l k) e d = gives_nothing p.layout g into d
   last_gives (op.Switch w x l cases) e d = gives_nothing p.layout g into d

@@ -17,24 +17,30 @@ use Rattle.no_sound.specs.Sound.{is_width, type_fits, align_fits, place_fits}
 
 -- ---- initialisers that are of their type
 
+-- the form of an integer type of a width that there is
 abbrev pub int_step : Ty-F Ty → Bool
 int_step (Ty-F.Int w) = is_width w
 int_step _ = false
 
+-- an integer type
 abbrev pub is_int : Ty → Bool
 is_int t = int_step (out-Ty t)
 
+-- the form of ptr
 abbrev pub pointer_step : Ty-F Ty → Bool
 pointer_step Ty-F.Ptr = true
 pointer_step _ = false
 
+-- the type ptr
 abbrev pub is_pointer : Ty → Bool
 is_pointer t = pointer_step (out-Ty t)
 
+-- the form of i8
 abbrev pub byte_step : Ty-F Ty → Bool
 byte_step (Ty-F.Int w) = w == 8
 byte_step _ = false
 
+-- the type i8
 abbrev pub is_byte : Ty → Bool
 is_byte t = byte_step (out-Ty t)
 
@@ -48,16 +54,18 @@ abbrev pub elements_fit : Ty-F Ty → List (Ty → Bool) → Bool
 elements_fit (Ty-F.Array count element) fits = count == length fits && list_all (λ (fit : Ty → Bool). fit element) fits
 elements_fit _ fits = false
 
--- fields are of a struct of as many, each of its field's type
+-- each field is of its type, and there are as many fields as types
 abbrev pub each_fits : List Ty → List (Ty → Bool) → Bool
 each_fits [] [] = true
 each_fits (t ∷ ts) (fit ∷ fits) = fit t && each_fits ts fits
 each_fits _ _ = false
 
+-- fields are of a struct of as many, each of its field's type
 abbrev pub fields_fit : Ty-F Ty → List (Ty → Bool) → Bool
 fields_fit (Ty-F.Struct packed ts) fits = each_fits ts fits
 fields_fit _ fits = false
 
+-- one form of a constant is of a type, where it is known of which types the constants inside it are
 abbrev pub init_step : Module → Layout → List Extent → Const-F (Ty → Bool) → Ty → Bool
 init_step m l sizes Const-F.Zero t = true
 init_step m l sizes (Const-F.Int n) t = is_int t
@@ -78,6 +86,7 @@ init_fits m l sizes = fold-Const (Ty → Bool) (init_step m l sizes)
 abbrev pub global_fits : Layout → List Extent → GlobalVar → Bool
 global_fits l sizes g = type_fits l sizes g.ty && align_fits g.align
 
+-- each of these globals fits
 abbrev pub globals_fit : Layout → List Extent → List GlobalVar → Bool
 globals_fit l sizes globals = list_all (global_fits l sizes) globals
 

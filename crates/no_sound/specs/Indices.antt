@@ -9,12 +9,13 @@ pub use Rattle.no_module.specs.Named.{defined, resolved, resolved_step}
 
 -- ---- one index into an array or a struct
 
--- how far it leads
+-- how far an index leads into one form of a type, in bytes
 abbrev pub place_in : Layout → List Extent → Ty → Ty-F Ty → ℕ → ℕ
 place_in l sizes t (Ty-F.Array count element) i = i * type_stride l sizes element
 place_in l sizes t (Ty-F.Struct packed fields) i = offset_of l sizes t i
 place_in l sizes t _ i = 0
 
+-- how far an index leads into a type, in bytes
 abbrev pub index_offset : Layout → List Extent → Ty → ℕ → ℕ
 index_offset l sizes t i = place_in l sizes t (out-Ty t) i
 
@@ -24,6 +25,7 @@ part_in (Ty-F.Array count element) i = Some element
 part_in (Ty-F.Struct packed fields) i = if nat_lt i (2 ^ 31) then slice_get fields i else None
 part_in _ i = None
 
+-- the type of the element or field that an index leads to, where it leads to one
 abbrev pub part_of : Ty → ℕ → Option Ty
 part_of t i = part_in (out-Ty t) i
 
@@ -50,6 +52,7 @@ abbrev pub inner_leads : List (List ℕ × Ty) → Ty → List ℕ → Bool
 inner_leads types t [] = true
 inner_leads types t (i ∷ others) = told_of false (part_of (resolved types t) i) (λ u. inner_leads types u others)
 
+-- whether the indices lead somewhere; the first one always does
 abbrev pub path_leads : List (List ℕ × Ty) → Ty → List ℕ → Bool
 path_leads types t [] = true
 path_leads types t (i ∷ others) = inner_leads types t others

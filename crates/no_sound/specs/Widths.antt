@@ -4,6 +4,7 @@ use Rattle.no_ir.specs.declared.types.Ty.{Ty, out-Ty}
 use Rattle.no_ir.specs.declared.types.Ty.TheOpen.{Ty-F}
 use Rattle.no_layout.specs.declared.layout.Layout.{Layout}
 
+-- how many bits a value of one form of a type has; what is neither integer nor pointer has none
 abbrev pub width_step : Layout → Ty-F Ty → ℕ
 width_step l (Ty-F.Int w) = w
 width_step l Ty-F.Ptr = l.pointer

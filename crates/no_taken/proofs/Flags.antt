@@ -4,16 +4,26 @@ use Rattle.std.proofs.Math.Bool.{or-false, or_assoc}
 use Rattle.std.proofs.lemmas.Bool.{cases_Bool, eqb-true}
 use Rattle.std.proofs.lemmas.List.{get_or-replicate, length-replicate}
 use Rattle.std.specs.List.{concat, flat_map, list_any}
+use Rattle.no_ir.specs.declared.instruction.Operand.{Operand}
 use Rattle.no_ir.specs.declared.function.Function.{Function}
 use Rattle.no_ir.specs.declared.function.GlobalVar.{GlobalVar}
 use Rattle.no_ir.specs.declared.function.Module.{Module}
 use Rattle.no_semantics.specs.Taken.{function_taken, module_taken}
-use Rattle.no_verify_types.specs.Named.{global_names}
+use Rattle.no_verify_types.specs.Named.{global_names, operand_names}
 use Rattle.no_taken.specs.Marked.{AreTaken, marked}
 
 pub marked_append : (a b : List ℕ) (flags : List Bool) → marked (a ++ b) flags ≡ marked b (marked a flags)
 marked_append [] b flags = refl
 marked_append (k ∷ a) b flags = marked_append a b (slice_set flags k true)
+
+-- the flags of one operand more are set
+pub marked_more : (flags new total : List Bool) (left more : List Operand) (o : Operand) → new ≡ marked (operand_names o) flags → left ≡ o ∷ more
+    → total ≡ marked (flat_map operand_names left) flags → total ≡ marked (flat_map operand_names more) new
+marked_more flags new total left more o done is so_far =
+    so_far
+    ∙ ap (λ (os : List Operand). marked (flat_map operand_names os) flags) is
+    ∙ marked_append (operand_names o) (flat_map operand_names more) flags
+    ∙ ap (marked (flat_map operand_names more)) (sym done)
 
 -- ---- the numbers of the items of a list
 

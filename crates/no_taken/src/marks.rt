@@ -1,12 +1,15 @@
 ghost use Rattle.std.specs.Prelude.{◌≡◌, ◌++◌, false, replicate, slice_set, true, IfOk, map};
 ghost use Rattle.std.specs.List.{concat, flat_map};
+ghost use Rattle.no_module.specs.Instructions.{argument_operands};
+ghost use Rattle.no_module.specs.Left.{operands_left};
 ghost use Rattle.no_semantics.specs.Taken.{block_taken, callee_taken, function_taken, op_taken};
-ghost use Rattle.no_verify_types.specs.Named.{constant_names, count_names, global_names, op_names, operand_names, symbol_names, value_names};
+ghost use Rattle.no_verify_types.specs.Named.{constant_names, global_names, operand_names, symbol_names};
 ghost use Rattle.no_taken.specs.Marked.{AreTaken, marked};
 
 use no_ir::{
     Block, Const, Function, GlobalVar, Instr, List, Module, NoMemory, Op, Operand, Symbol, Ty,
 };
+use no_module::Operands;
 use no_verify_types::direct;
 use std::alloc::Global;
 
@@ -58,52 +61,15 @@ fn mark_operand(flags: &mut List<bool>, operand: &Operand)
     }
 }
 
-#[tactic(auto, using(crate::proofs::Flags::marked_append))]
-fn mark_two(flags: &mut List<bool>, left: &Operand, right: &Operand)
-    ensures { flags.new ≡ marked (operand_names left.now ++ operand_names right.now) flags.old }
+/// Sets the flags of the functions that operands name.
+fn mark_operands(flags: &mut List<bool>, operands: Operands<'_>)
+    ensures { flags.new ≡ marked (flat_map operand_names (operands_left operands.entry)) flags.old }
 {
-    mark_operand(flags, left);
-    mark_operand(flags, right);
-}
-
-#[tactic(auto, using(crate::proofs::Flags::marked_append))]
-fn mark_choice(flags: &mut List<bool>, condition: &Operand, chosen: &Operand, other: &Operand)
-    ensures { flags.new ≡ marked (operand_names condition.now ++ (operand_names chosen.now ++ operand_names other.now)) flags.old }
-{
-    mark_operand(flags, condition);
-    mark_two(flags, chosen, other);
-}
-
-fn mark_pairs(flags: &mut List<bool>, pairs: &[(Operand, u32)])
-    ensures { flags.new ≡ marked (flat_map (λ pair. operand_names pair.0) pairs.now) flags.old }
-{
-    for pair in pairs {
-        mark_operand(flags, &pair.0);
+    let mut left = operands;
+    while let Some((operand, more)) = left.split_first() {
+        mark_operand(flags, operand);
+        left = more;
     }
-}
-
-fn mark_indices(flags: &mut List<bool>, indices: &[(u8, Operand)])
-    ensures { flags.new ≡ marked (flat_map (λ index. operand_names index.1) indices.now) flags.old }
-{
-    for index in indices {
-        mark_operand(flags, &index.1);
-    }
-}
-
-fn mark_args(flags: &mut List<bool>, args: &[(Ty, Operand)])
-    ensures { flags.new ≡ marked (flat_map (λ arg. operand_names arg.1) args.now) flags.old }
-{
-    for arg in args {
-        mark_operand(flags, &arg.1);
-    }
-}
-
-#[tactic(auto, using(crate::proofs::Flags::marked_append))]
-fn mark_path(flags: &mut List<bool>, address: &Operand, indices: &[(u8, Operand)])
-    ensures { flags.new ≡ marked (operand_names address.now ++ flat_map (λ index. operand_names index.1) indices.now) flags.old }
-{
-    mark_operand(flags, address);
-    mark_indices(flags, indices);
 }
 
 /// A bare name that is called directly is not taken.
@@ -117,47 +83,18 @@ fn mark_callee(flags: &mut List<bool>, callee: &Operand)
 
 #[tactic(auto, using(crate::proofs::Flags::marked_append))]
 fn mark_call(flags: &mut List<bool>, callee: &Operand, args: &[(Ty, Operand)])
-    ensures { flags.new ≡ marked (callee_taken callee.now ++ flat_map (λ arg. operand_names arg.1) args.now) flags.old }
+    ensures { flags.new ≡ marked (callee_taken callee.now ++ flat_map operand_names (argument_operands args.now)) flags.old }
 {
     mark_callee(flags, callee);
-    mark_args(flags, args);
-}
-
-fn mark_count(flags: &mut List<bool>, count: &Option<(u8, Operand)>)
-    ensures { flags.new ≡ marked (count_names count.now) flags.old }
-{
-    if let Some(count) = count {
-        mark_operand(flags, &count.1);
-    }
-}
-
-fn mark_value(flags: &mut List<bool>, value: &Option<(Ty, Operand)>)
-    ensures { flags.new ≡ marked (value_names value.now) flags.old }
-{
-    if let Some(value) = value {
-        mark_operand(flags, &value.1);
-    }
+    mark_operands(flags, Operands::Arguments(args));
 }
 
 fn mark_op(flags: &mut List<bool>, op: &Op)
     ensures { flags.new ≡ marked (op_taken op.now) flags.old }
 {
     match op {
-        Op::Binary(_, _, left, right) => mark_two(flags, left, right),
-        Op::Compare(_, _, left, right) => mark_two(flags, left, right),
-        Op::Cast(_, _, value, _) => mark_operand(flags, value),
-        Op::Freeze(_, value) => mark_operand(flags, value),
-        Op::Select(condition, _, chosen, other) => mark_choice(flags, condition, chosen, other),
-        Op::Phi(_, pairs) => mark_pairs(flags, pairs.as_slice()),
-        Op::Alloca(_, count, _) => mark_count(flags, count),
-        Op::Load(_, _, address) => mark_operand(flags, address),
-        Op::Store(_, _, value, address) => mark_two(flags, value, address),
-        Op::Gep(_, address, indices) => mark_path(flags, address, indices.as_slice()),
         Op::Call(_, callee, args) => mark_call(flags, callee, args.as_slice()),
-        Op::CondBr(condition, _, _) => mark_operand(flags, condition),
-        Op::Switch(_, value, _, _) => mark_operand(flags, value),
-        Op::Ret(value) => mark_value(flags, value),
-        Op::Br(_) | Op::Unreachable => {}
+        _ => mark_operands(flags, Operands::of(op)),
     }
 }
 

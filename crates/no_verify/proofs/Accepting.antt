@@ -23,7 +23,8 @@ use Rattle.no_verify_types.specs.declared.place.FaultPlace.{FaultPlace}
 use Rattle.no_verify_structure.specs.Finding.{first_place}
 use Rattle.no_verify_structure.specs.Large.{base_fits, function_large, global_fits, head_fits, instr_fits, large_with, named_fit}
 use Rattle.no_verify_structure.specs.Names.{is_in, labels_defined, registers_of}
-use Rattle.no_verify_structure.specs.Parts.{constant_keeps, operands_keep, types_of}
+use Rattle.no_module.specs.Instructions.{types_of}
+use Rattle.no_verify_structure.specs.Parts.{constant_keeps, operands_keep}
 use Rattle.no_verify_structure.specs.Unknown.{function_unknown, global_known, instr_known, place_known}
 use Rattle.no_verify.specs.Verdict.{IsAccepted}
 use Rattle.no_verify.specs.declared.fault.VerifyKind.TheVariants as kind

@@ -34,7 +34,8 @@ use Rattle.no_verify_types.specs.Addresses.{constant_field, field_of, indices_le
 use Rattle.no_verify_types.specs.Constants.{value_step}
 use Rattle.no_verify_types.specs.Typing.{argument_fits, bare_function, both_fit, callee_fits, converts, count_fits, direct, field_in, goes_between, integer_fits, named_step, number_of, number_step, op_typed, operand_fits, returns, stated_field}
 use Rattle.no_verify_structure.specs.Large.{base_fits}
-use Rattle.no_verify_structure.specs.Parts.{constant_keeps, operand_keeps, operands_of, types_of}
+use Rattle.no_module.specs.Instructions.{operands_of, types_of}
+use Rattle.no_verify_structure.specs.Parts.{constant_keeps, operand_keeps}
 use Rattle.no_verify_structure.specs.Unknown.{place_known}
 use Rattle.no_sound.specs.Indices as run
 use Rattle.no_sound.specs.Sound as sound

@@ -30,6 +30,7 @@ pub record IsUnassignedAt (functions : List Function) (place : FaultPlace) : Typ
   pub first : IsAnswer function (Some (place.block, place.place))
   pub before : AreAssigned functions place.function
 
+-- the first such use in a module, or that there is none
 abbrev pub IsUnassignedPlace : List Function → Option FaultPlace → Type 0
 IsUnassignedPlace functions None = (j : ℕ) (f : Function) → slice_get functions j ≡ Some f → IsAnswer f None
 IsUnassignedPlace functions (Some place) = IsUnassignedAt functions place
@@ -50,6 +51,7 @@ IsPlace l m role kind.BadMark place = place ≡ marks_of m role
 
 -- ---- numbers
 
+-- the number that a line or a frame states for a kind of fault
 abbrev pub number_of : VerifyKind → ℕ
 number_of kind.UnknownName = 1
 number_of kind.Twice = 2

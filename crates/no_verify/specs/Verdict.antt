@@ -28,6 +28,7 @@ later_kinds =
 abbrev pub judged_kinds : List VerifyKind
 judged_kinds = kind.BadType ∷ later_kinds
 
+-- the place of a fault, without its kind
 abbrev pub place_of : VerifyFault → FaultPlace
 place_of fault = fault_at fault.function fault.block fault.place
 

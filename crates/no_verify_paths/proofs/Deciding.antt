@@ -80,11 +80,11 @@ module _ (f : Function) (rows : List (Vec Need Global)) where
   pub rows_more : (n : ℕ) (a b : Option (ℕ × ℕ)) → Judged f (InRows rows n) None a → Judged f (Contains (row rows n)) a b → Judged f (InRows rows (n + 1)) None b
   rows_more n a b g h = judged_as f (λ u. InRows rows n u ⊎ Contains (row rows n) u) (InRows rows (n + 1)) None b (row_to n) (row_from n) (judged_then f (InRows rows n) (Contains (row rows n)) None a b g h)
 
-pub no_read_blocks : (f : Function) → length f.blocks ≡ 0 → IsAnswer f None
-no_read_blocks f none b k = assigned_or_not f b k (λ un. none_past f b k (subst (λ code. length code ≤ k) (sym (code_past f b (omega arith))) (omega arith)) un)
+pub no_blocks_answer : (f : Function) → length f.blocks ≡ 0 → IsAnswer f None
+no_blocks_answer f none b k = assigned_or_not f b k (λ un. none_past f b k (subst (λ code. length code ≤ k) (sym (code_past f b (omega arith))) (omega arith)) un)
 
 empty_length : (n : ℕ) → (n == 0) ≡ true → n ≡ 0
 empty_length n e = grind (arith, nat_tests)
 
 pub empty_answer : (f : Function) (blocks : List Block) → blocks ≡ f.blocks → (length blocks == 0) ≡ true → IsAnswer f None
-empty_answer f blocks are e = no_read_blocks f (ap (λ (bs : List Block). length bs) (sym are) ∙ empty_length (length blocks) e)
+empty_answer f blocks are e = no_blocks_answer f (ap (λ (bs : List Block). length bs) (sym are) ∙ empty_length (length blocks) e)

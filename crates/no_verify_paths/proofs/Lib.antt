@@ -5,3 +5,4 @@ pub mod Noting
 pub mod Judging
 pub mod Solving
 pub mod Deciding
+pub mod Taking

@@ -11,7 +11,8 @@ use Rattle.std.proofs.lemmas.Option.{slice_get_read, slice_get_within, get_or_fr
 use Rattle.no_ir.specs.declared.instruction.Instr.{Instr}
 use Rattle.no_ir.specs.declared.function.Block.{Block}
 use Rattle.no_ir.specs.declared.function.Function.{Function}
-use Rattle.no_verify_paths.specs.Paths.{assigned, assigns, code_of, code_in, labels_in, exits, successors, block_of, first_from, uses, phi_uses, uses_at, uses_in, phi_uses_at, phi_uses_in, is_result, IsUnassigned, MissesHere, MissesAtEnd, IsBefore}
+use Rattle.no_module.specs.Instructions.{exits_in}
+use Rattle.no_verify_paths.specs.Paths.{assigned, assigns, code_of, code_in, exits, successors, block_of, first_from, uses, phi_uses, uses_at, uses_in, phi_uses_at, phi_uses_in, is_result, IsUnassigned, MissesHere, MissesAtEnd, IsBefore}
 use Rattle.no_verify_paths.specs.Flow.{row}
 use Rattle.no_verify_paths.specs.Survey.{at, is_some_of, here, there, IsNeed, IsNoted, IsAssignment, RowAdded, Gathers, IsHere, IsThere, IsTold, IsStep, Notes, IsLabels}
 use Rattle.no_verify_paths.specs.declared.need.Need.{Need}
@@ -380,11 +381,11 @@ same_filter : {X Y : Type 0} (g h : X → Option Y) → ((x : X) → g x ≡ h x
 same_filter g h same [] = refl
 same_filter g h same (x ∷ xs) = rw (same x, same_filter g h same xs) refl
 
-pub successors_is : (f : Function) (labels : List (Option ℕ)) (b : ℕ) (code : List Instr) → IsLabels f labels → code_of f b ≡ code → filter_map (at labels) (labels_in (slice_get code (length code - 1))) ≡ successors f b
+pub successors_is : (f : Function) (labels : List (Option ℕ)) (b : ℕ) (code : List Instr) → IsLabels f labels → code_of f b ≡ code → filter_map (at labels) (exits_in (slice_get code (length code - 1))) ≡ successors f b
 unfolding successors exits
 successors_is f labels b code known is =
-    same_filter (at labels) (block_of f) known (labels_in (slice_get code (length code - 1)))
-    ∙ ap (λ (is : List Instr). filter_map (block_of f) (labels_in (slice_get is (length is - 1)))) (sym is)
+    same_filter (at labels) (block_of f) known (exits_in (slice_get code (length code - 1)))
+    ∙ ap (λ (is : List Instr). filter_map (block_of f) (exits_in (slice_get is (length is - 1)))) (sym is)
 
 pub code_past : (f : Function) (b : ℕ) → length f.blocks ≤ b → code_of f b ≡ []
 unfolding code_of
@@ -392,7 +393,7 @@ code_past f b past = ap code_in (slice_get_past f.blocks b past)
 
 pub no_successors : (f : Function) (b : ℕ) → length f.blocks ≤ b → successors f b ≡ []
 unfolding successors exits
-no_successors f b past = ap (λ (is : List Instr). filter_map (block_of f) (labels_in (slice_get is (length is - 1)))) (code_past f b past)
+no_successors f b past = ap (λ (is : List Instr). filter_map (block_of f) (exits_in (slice_get is (length is - 1)))) (code_past f b past)
 
 filtered : (f : Function) (o : Option ℕ) → ((b : ℕ) → o ≡ Some b → b < length f.blocks) → (rest : List ℕ) → All (λ b. b < length f.blocks) rest → All (λ b. b < length f.blocks) (cons_option o rest)
 filtered f None inside rest all = all

@@ -6,6 +6,7 @@ use Rattle.no_verify_paths.specs.Words.{has}
 
 -- ---- lists of lists
 
+-- the items of a row, none where there is no row
 abbrev pub items_in : {T : Type 0} → Option (Vec T Global) → List T
 items_in None = []
 items_in (Some row) = row.items
@@ -26,10 +27,12 @@ pub record Waiting : Type 0 where
   pub blocks : List ℕ
   pub room : ℕ
 
+-- what a take from the work list gives: its last block, which waits no more, or nothing from an empty list
 abbrev pub Taken : Option ℕ → Waiting → Waiting → Type 0
 Taken None old new = (old.blocks ≡ []) × (new ≡ old)
 Taken (Some b) old new = (old.blocks ≡ new.blocks ++ b ∷ []) × (new.room ≡ old.room) × (b < old.room)
 
+-- block b waits from now on, and so does whatever waited; the list grows by one at most
 pub record Added (b : ℕ) (old new : Waiting) : Type 0 where
   pub there : Contains new.blocks b
   pub kept : (x : ℕ) → Contains old.blocks x → Contains new.blocks x
@@ -60,6 +63,8 @@ Goes next gens b (a ∷ before) i = Contains (next a) b × (has (slice_index gen
 abbrev pub Misses : (ℕ → List ℕ) → List ℕ → ℕ → ℕ → ℕ → Type 0
 Misses next gens start b i = (before : List ℕ) × Goes next gens b before i × (has start i ≡ false)
 
+-- what holds while sets settle: the entry has no member but those of `start`, whatever a set lacks some path misses,
+-- and an edge lets nothing through that the block before it neither has nor adds, unless that block waits
 pub record Flowing (next : ℕ → List ℕ) (gens : List ℕ) (start : ℕ) (sets : List ℕ) (waiting : Waiting) : Type 0 where
   pub entry : (i : ℕ) → has (slice_index sets 0) i ≡ true → has start i ≡ true
   pub shown : (b i : ℕ) → b < length sets → i < 64 → has (slice_index sets b) i ≡ false → Misses next gens start b i

@@ -1,5 +1,5 @@
 -- Paths through a function, and the registers that they assign.
-use Rattle.std.specs.Prelude.{◌≡◌, ℕ, ◌+◌, ◌-◌, ◌<◌, Bool, true, false, ◌||◌, ◌==◌, ◌⊎◌, List, [], ◌∷◌, ◌++◌, length, map, take, slice_get, Option, Some, None, if◌then◌else◌}
+use Rattle.std.specs.Prelude.{◌≡◌, ℕ, ◌+◌, ◌-◌, ◌<◌, Bool, true, false, ◌||◌, ◌==◌, ◌⊎◌, List, [], ◌∷◌, length, map, take, slice_get, Option, Some, None, if◌then◌else◌}
 use Rattle.std.specs.List.{Contains, filter_map, flat_map, list_any}
 use Rattle.no_ir.specs.declared.types.Ty.{Ty}
 use Rattle.no_ir.specs.declared.instruction.Operand.{Operand}
@@ -9,6 +9,7 @@ use Rattle.no_ir.specs.declared.instruction.Op.TheVariants as op
 use Rattle.no_ir.specs.declared.instruction.Instr.{Instr}
 use Rattle.no_ir.specs.declared.function.Block.{Block}
 use Rattle.no_ir.specs.declared.function.Function.{Function}
+use Rattle.no_module.specs.Instructions.{exits_in, is_phi, operands_of}
 
 -- ---- what an instruction uses (LLVM Language Reference, "Instruction Reference")
 
@@ -17,39 +18,11 @@ abbrev pub registers_of : Operand → List ℕ
 registers_of (operand.Reg r) = r ∷ []
 registers_of (operand.Const c) = []
 
-abbrev pub index_uses : List (ℕ × Operand) → List ℕ
-index_uses indices = flat_map (λ (index : ℕ × Operand). registers_of index.1) indices
-
-abbrev pub argument_uses : List (Ty × Operand) → List ℕ
-argument_uses arguments = flat_map (λ (argument : Ty × Operand). registers_of argument.1) arguments
-
-abbrev pub count_uses : Option (ℕ × Operand) → List ℕ
-count_uses None = []
-count_uses (Some count) = registers_of count.1
-
-abbrev pub value_uses : Option (Ty × Operand) → List ℕ
-value_uses None = []
-value_uses (Some value) = registers_of value.1
-
 -- the registers that an instruction uses where it stands; a phi uses none there
 unfoldable pub uses : Op → List ℕ
-uses (op.Binary o w a b) = registers_of a ++ registers_of b
-uses (op.Compare o t a b) = registers_of a ++ registers_of b
-uses (op.Cast o t a u) = registers_of a
-uses (op.Freeze t a) = registers_of a
-uses (op.Select c t a b) = registers_of c ++ registers_of a ++ registers_of b
-uses (op.Phi t pairs) = []
-uses (op.Alloca t count align) = count_uses count
-uses (op.Load volatile t a) = registers_of a
-uses (op.Store volatile t v a) = registers_of v ++ registers_of a
-uses (op.Gep t a indices) = registers_of a ++ index_uses indices
-uses (op.Call t callee arguments) = registers_of callee ++ argument_uses arguments
-uses (op.Br l) = []
-uses (op.CondBr c l k) = registers_of c
-uses (op.Switch w a l cases) = registers_of a
-uses (op.Ret value) = value_uses value
-uses op.Unreachable = []
+uses o = if is_phi o then [] else flat_map registers_of (operands_of o)
 
+-- the register that a phi takes from a label, with the label
 abbrev pub pair_use : Operand × ℕ → List (ℕ × ℕ)
 pair_use pair = map (λ r. (r, pair.1)) (registers_of pair.0)
 
@@ -58,15 +31,9 @@ unfoldable pub phi_uses : Op → List (ℕ × ℕ)
 phi_uses (op.Phi t pairs) = flat_map pair_use pairs
 phi_uses _ = []
 
--- the labels that a terminator names ("Terminator Instructions")
-unfoldable pub labels_of : Op → List ℕ
-labels_of (op.Br l) = l ∷ []
-labels_of (op.CondBr c l k) = l ∷ k ∷ []
-labels_of (op.Switch w a l cases) = l ∷ map (λ (case : ℕ × ℕ). case.1) cases
-labels_of _ = []
-
 -- ---- blocks and places
 
+-- the instructions of a block, none where there is no block
 abbrev pub code_in : Option Block → List Instr
 code_in None = []
 code_in (Some block) = block.instrs
@@ -75,22 +42,21 @@ code_in (Some block) = block.instrs
 unfoldable pub code_of : Function → ℕ → List Instr
 code_of f b = code_in (slice_get f.blocks b)
 
+-- the registers that an instruction uses where it stands, none where there is no instruction
 abbrev pub uses_in : Option Instr → List ℕ
 uses_in None = []
 uses_in (Some i) = uses i.op
 
+-- the registers that a phi uses, each with its label; none where there is no instruction
 abbrev pub phi_uses_in : Option Instr → List (ℕ × ℕ)
 phi_uses_in None = []
 phi_uses_in (Some i) = phi_uses i.op
-
-abbrev pub labels_in : Option Instr → List ℕ
-labels_in None = []
-labels_in (Some i) = labels_of i.op
 
 -- the uses of the instruction at place k of block b, none where there is no such instruction
 unfoldable pub uses_at : Function → ℕ → ℕ → List ℕ
 uses_at f b k = uses_in (slice_get (code_of f b) k)
 
+-- the registers that a phi at place k of block b uses, each with its label
 unfoldable pub phi_uses_at : Function → ℕ → ℕ → List (ℕ × ℕ)
 phi_uses_at f b k = phi_uses_in (slice_get (code_of f b) k)
 
@@ -99,12 +65,13 @@ abbrev pub first_from : ℕ → List Block → ℕ → Option ℕ
 first_from n [] l = None
 first_from n (block ∷ others) l = if block.label == l then Some n else first_from (n + 1) others l
 
+-- the number of the first block of a function that has the label
 unfoldable pub block_of : Function → ℕ → Option ℕ
 block_of f l = first_from 0 f.blocks l
 
 -- the labels that the last instruction of block b names
 unfoldable pub exits : Function → ℕ → List ℕ
-exits f b = labels_in (slice_get (code_of f b) (length (code_of f b) - 1))
+exits f b = exits_in (slice_get (code_of f b) (length (code_of f b) - 1))
 
 -- the successors of block b: the blocks of the labels that its last instruction names
 unfoldable pub successors : Function → ℕ → List ℕ
@@ -118,6 +85,7 @@ abbrev pub PathTo : Function → ℕ → List ℕ → Type 0
 PathTo f b [] = b ≡ 0
 PathTo f b (a ∷ before) = Contains (successors f a) b × PathTo f a before
 
+-- the result of an instruction is register r
 abbrev pub is_result : ℕ → Option ℕ → Bool
 is_result r None = false
 is_result r (Some s) = s == r
@@ -126,6 +94,7 @@ is_result r (Some s) = s == r
 unfoldable pub assigns : ℕ → List Instr → Bool
 assigns r code = list_any (λ (i : Instr). is_result r i.result) code
 
+-- one of the parameters is register r
 abbrev pub is_among : List (ℕ × Ty) → ℕ → Bool
 is_among parameters r = list_any (λ (p : ℕ × Ty). p.0 == r) parameters
 

@@ -15,6 +15,7 @@ use Rattle.no_verify_paths.specs.declared.survey.Notebook.{Notebook}
 abbrev pub at : List (Option ℕ) → ℕ → Option ℕ
 at table i = slice_index_or table i None
 
+-- there is a number, and it is b
 abbrev pub is_some_of : Option ℕ → ℕ → Bool
 is_some_of None b = false
 is_some_of (Some a) b = a == b
@@ -65,10 +66,11 @@ pub record Gathers (wanted : Need → Type 0) (old new : List (Vec Need Global))
   pub only : (j : ℕ) (u : Need) → Contains (row new j) u → Contains (row old j) u ⊎ ((u.register / 64 ≡ j) × wanted u)
   pub all : (u : Need) → wanted u → Contains (row new (u.register / 64)) u
 
--- the need of a register at the beginning of the user's block, and at the end of block b
+-- the need of a register at the beginning of the user's block
 abbrev pub here : ℕ → ℕ × ℕ → Need
 here r user = record { register = r; block = user.0; at_end = false; user = user }
 
+-- the need of a register at the end of block b, from which a phi takes it
 abbrev pub there : ℕ → ℕ → ℕ × ℕ → Need
 there r b user = record { register = r; block = b; at_end = true; user = user }
 
@@ -111,6 +113,7 @@ pub record Notes (f : Function) (needs : List (Vec Need Global)) (assignments : 
   pub marked : (r : ℕ) → is_some_of (at marks r) b ≡ assigns r (take k (code_of f b))
   pub unmarked : (r c : ℕ) → b < c → is_some_of (at marks r) c ≡ false
 
+-- a notebook holds what was noted of all instructions before place k of block b
 abbrev pub IsNotebook : Function → Notebook → ℕ → ℕ → Type 0
 IsNotebook f book b k = Notes f book.needs.items book.assignments.items book.marks.items b k
 

@@ -1,12 +1,14 @@
 ghost use Rattle.std.specs.Prelude.{◌≡◌, ℕ, ◌-◌, ◌<◌, [], ◌∷◌, ◌++◌, IfOk, OnOk, length, slice_get, vec_len};
 ghost use Rattle.std.specs.List.{filter_map};
-ghost use Rattle.no_verify_paths.specs.Paths.{labels_in, successors};
+ghost use Rattle.no_module.specs.Instructions.{exits_in};
+ghost use Rattle.no_module.specs.Left.{labels_left};
+ghost use Rattle.no_verify_paths.specs.Paths.{successors};
 ghost use Rattle.no_verify_paths.specs.Flow.{row};
 ghost use Rattle.no_verify_paths.specs.Survey.{IsLabels, at};
 
-use crate::operands::list_labels;
 use crate::rows::find;
 use no_ir::{Function, Instr, NoMemory};
+use no_module::Labels;
 use std::alloc::Global;
 
 /// Adds the block of a label. One that no block has leads nowhere.
@@ -20,12 +22,15 @@ fn add_block(label: u32, labels: &[Option<u32>], blocks: &mut Vec<u32>) -> Resul
 }
 
 /// The blocks of labels.
-fn resolve(alloc: Global, named: &[u32], labels: &[Option<u32>]) -> Result<Vec<u32>, NoMemory>
-    ensures { IfOk result (λ blocks. blocks.items ≡ filter_map (at labels.now) named.now) }
+#[tactic(auto, using(crate::proofs::Taking::labels_taken))]
+fn resolve(alloc: Global, named: Labels<'_>, labels: &[Option<u32>]) -> Result<Vec<u32>, NoMemory>
+    ensures { IfOk result (λ blocks. blocks.items ≡ filter_map (at labels.now) (labels_left named.entry)) }
 {
     let mut blocks = Vec::new(alloc);
-    for label in named {
-        add_block(*label, labels, &mut blocks)?;
+    let mut left = named;
+    while let Some((label, more)) = left.split_first() {
+        add_block(label, labels, &mut blocks)?;
+        left = more;
     }
     Ok(blocks)
 }
@@ -36,13 +41,12 @@ fn successors_of(
     code: &[Instr],
     labels: &[Option<u32>],
 ) -> Result<Vec<u32>, NoMemory>
-    ensures { IfOk result (λ blocks. blocks.items ≡ filter_map (at labels.now) (labels_in (slice_get code.now (length code.now - 1)))) }
+    ensures { IfOk result (λ blocks. blocks.items ≡ filter_map (at labels.now) (exits_in (slice_get code.now (length code.now - 1)))) }
 {
-    let mut named = Vec::new(alloc);
-    if let Some(instr) = code.last() {
-        list_labels(&instr.op, &mut named)?;
+    match code.last() {
+        Some(instr) => resolve(alloc, Labels::exits(&instr.op), labels),
+        None => Ok(Vec::new(alloc)),
     }
-    resolve(alloc, named.as_slice(), labels)
 }
 
 /// The successors of each block.

@@ -13,7 +13,7 @@ use Rattle.no_ir.specs.declared.function.Function.{Function}
 use Rattle.no_verify_structure.specs.Edges.{with_edge, with_exits, table_of, entry_of}
 use Rattle.no_verify_structure.specs.Finding.{first_break}
 use Rattle.no_verify_structure.specs.Names.{is_in, with_number, blocks_labels}
-use Rattle.no_verify_structure.specs.Parts.{pair_labels}
+use Rattle.no_module.specs.Instructions.{pair_labels}
 use Rattle.no_verify_structure.specs.Phis.{block_exits, leads_to, predecessors, op_meets, phi_allowed, phis_meet, same_labels, pairs_agree}
 use Rattle.no_verify_structure.proofs.Members.{same_tests, same_members, put_member, or_false}
 

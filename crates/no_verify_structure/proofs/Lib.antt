@@ -4,4 +4,3 @@ mod Edges
 mod Named
 mod Found
 mod Firsts
-mod Indices

@@ -9,7 +9,8 @@ use Rattle.no_ir.specs.declared.function.Function.{Function}
 use Rattle.no_ir.specs.declared.function.Module.{Module}
 use Rattle.no_verify_structure.specs.Finding.{first_instr}
 use Rattle.no_verify_structure.specs.Names.{is_in, with_number, registers_of, labels_defined}
-use Rattle.no_verify_structure.specs.Parts.{operands_keep, labels_of}
+use Rattle.no_module.specs.Instructions.{labels_of}
+use Rattle.no_verify_structure.specs.Parts.{operands_keep}
 use Rattle.no_verify_structure.specs.Unknown.{instr_known, place_known, function_unknown}
 
 -- two tests that agree everywhere

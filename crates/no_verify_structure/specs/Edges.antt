@@ -11,6 +11,7 @@ use Rattle.no_verify_structure.specs.Phis.{block_exits, pair_of}
 abbrev pub with_edge : ℕ → List (List ℕ) → ℕ → List (List ℕ)
 with_edge from table to = if nat_lt to (length table) then slice_set table to (with_number (slice_index_or table to []) from) else table
 
+-- a table with the edges of one block more
 abbrev pub with_exits : List (List ℕ) → Block → List (List ℕ)
 with_exits table block = fold (with_edge block.label) table (block_exits block)
 
@@ -25,15 +26,17 @@ entry_of (Some before) = before
 
 -- ---- the first pair of each label, by a table of places
 
+-- the pair at a place, where there is a place
 abbrev pub pair_at : List (Operand × ℕ) → Option ℕ → Option (Operand × ℕ)
 pair_at pairs None = None
 pair_at pairs (Some i) = slice_get pairs i
 
--- what the table has at label l once pair i has been seen, whose label is k: there the place i, if nothing was found before
+-- place i, where no pair was found before
 abbrev pub place_or : ℕ → Option (Operand × ℕ) → Option ℕ → Option ℕ
 place_or i None before = Some i
 place_or i (Some pair) before = before
 
+-- what the table has at label l once pair i has been seen, whose label is k: there the place i, if nothing was found before
 abbrev pub first_pair : List (Operand × ℕ) → ℕ → ℕ → Option ℕ → Option ℕ → ℕ → Option ℕ
 first_pair pairs i k at_l at_k l = if k == l then place_or i (pair_at pairs at_k) at_l else at_l
 

@@ -6,7 +6,7 @@ use Rattle.no_ir.specs.declared.function.Function.{Function}
 use Rattle.no_ir.specs.declared.function.Module.{Module}
 use Rattle.no_verify_types.specs.declared.place.FaultPlace.{FaultPlace}
 use Rattle.no_verify_structure.specs.Finding.{first_break, first_at, first_place}
-use Rattle.no_verify_structure.specs.Parts.{is_terminator}
+use Rattle.no_module.specs.Instructions.{is_terminator}
 
 -- the first terminator of a block
 abbrev pub first_terminator : List Instr → Option ℕ
@@ -18,9 +18,11 @@ abbrev pub ending_fault : ℕ → Option ℕ → Option ℕ
 ending_fault count None = Some (count - 1)
 ending_fault count (Some i) = if i + 1 == count then None else Some i
 
+-- the instruction of a block that is out of place: a terminator before the last instruction, or a last one that is none
 abbrev pub block_ending : Block → Option ℕ
 block_ending b = ending_fault (length b.instrs) (first_terminator b.instrs)
 
+-- block and place of the first such instruction of a function
 abbrev pub function_ending : Function → Option (ℕ × ℕ)
 function_ending f = first_at (λ b. block_ending) 0 f.blocks
 

@@ -11,17 +11,21 @@ use Rattle.no_verify_types.specs.declared.place.FaultPlace.{FaultPlace}
 use Rattle.no_module.specs.Functions.{is_declared}
 use Rattle.no_verify_structure.specs.Finding.{unless_whole}
 
+-- the outermost layer of a type is i32
 abbrev pub int_step : Ty-F Ty → Bool
 int_step (Ty-F.Int w) = w == 32
 int_step _ = false
 
+-- a type is i32, as what `main` gives and the count that it takes
 abbrev pub is_i32 : Ty → Bool
 is_i32 t = int_step (out-Ty t)
 
+-- the outermost layer of a type is ptr
 abbrev pub ptr_step : Ty-F Ty → Bool
 ptr_step Ty-F.Ptr = true
 ptr_step _ = false
 
+-- a type is ptr, as the words that `main` takes
 abbrev pub is_ptr : Ty → Bool
 is_ptr t = ptr_step (out-Ty t)
 

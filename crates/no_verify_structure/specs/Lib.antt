@@ -4,7 +4,6 @@ pub mod Names
 pub mod Twice
 pub mod Unknown
 pub mod Ending
-pub mod Same
 pub mod Phis
 pub mod Edges
 pub mod Marks

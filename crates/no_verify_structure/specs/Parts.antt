@@ -1,7 +1,6 @@
--- What an instruction names: operands, labels and types (LLVM Language Reference, "Instruction Reference").
-use Rattle.std.specs.Prelude.{ℕ, Bool, true, false, List, [], ◌∷◌, ◌++◌, map, Option, Some, None}
+-- Rules on what the operands of an instruction name: registers, and addresses in constants.
+use Rattle.std.specs.Prelude.{ℕ, Bool, true}
 use Rattle.std.specs.List.{list_all}
-use Rattle.no_ir.specs.declared.types.Ty.{Ty}
 use Rattle.no_ir.specs.declared.constant.Const.{Const}
 use Rattle.no_ir.specs.declared.constant.Const.TheOpen.{Const-F}
 use Rattle.no_ir.specs.declared.constant.Const.TheFolds.{fold-Const}
@@ -9,48 +8,9 @@ use Rattle.no_ir.specs.declared.constant.Place.{Place}
 use Rattle.no_ir.specs.declared.instruction.Operand.{Operand}
 use Rattle.no_ir.specs.declared.instruction.Operand.TheVariants as operand
 use Rattle.no_ir.specs.declared.instruction.Op.{Op}
-use Rattle.no_ir.specs.declared.instruction.Op.TheVariants as op
+use Rattle.no_module.specs.Instructions.{operands_of}
 
--- ---- operands
-
-abbrev pub pair_operands : List (Operand × ℕ) → List Operand
-pair_operands pairs = map (λ pair. pair.0) pairs
-
-abbrev pub index_operands : List (ℕ × Operand) → List Operand
-index_operands indices = map (λ index. index.1) indices
-
-abbrev pub argument_operands : List (Ty × Operand) → List Operand
-argument_operands arguments = map (λ argument. argument.1) arguments
-
-abbrev pub count_operands : Option (ℕ × Operand) → List Operand
-count_operands None = []
-count_operands (Some count) = count.1 ∷ []
-
-abbrev pub value_operands : Option (Ty × Operand) → List Operand
-value_operands None = []
-value_operands (Some value) = value.1 ∷ []
-
--- all operands of an instruction, the callee of a call and what a phi takes among them
-abbrev pub operands_of : Op → List Operand
-operands_of (op.Binary o w a b) = a ∷ b ∷ []
-operands_of (op.Compare p t a b) = a ∷ b ∷ []
-operands_of (op.Cast o t a u) = a ∷ []
-operands_of (op.Freeze t a) = a ∷ []
-operands_of (op.Select c t a b) = c ∷ a ∷ b ∷ []
-operands_of (op.Phi t pairs) = pair_operands pairs
-operands_of (op.Alloca t count align) = count_operands count
-operands_of (op.Load volatile t a) = a ∷ []
-operands_of (op.Store volatile t v a) = v ∷ a ∷ []
-operands_of (op.Gep t a indices) = a ∷ index_operands indices
-operands_of (op.Call t callee arguments) = callee ∷ argument_operands arguments
-operands_of (op.Br l) = []
-operands_of (op.CondBr c l k) = c ∷ []
-operands_of (op.Switch w a l cases) = a ∷ []
-operands_of (op.Ret value) = value_operands value
-operands_of op.Unreachable = []
-
--- ---- the registers and the addresses among them
-
+-- each address in a constant keeps a rule, where each in its parts does
 abbrev pub constant_step : (Place → Bool) → Const-F Bool → Bool
 constant_step places (Const-F.Array elements) = list_all (λ element. element) elements
 constant_step places (Const-F.Struct fields) = list_all (λ field. field) fields
@@ -67,67 +27,6 @@ abbrev pub operand_keeps : (ℕ → Bool) → (Place → Bool) → Operand → B
 operand_keeps registers places (operand.Reg r) = registers r
 operand_keeps registers places (operand.Const c) = constant_keeps places c
 
+-- each operand of an instruction keeps these rules
 abbrev pub operands_keep : (ℕ → Bool) → (Place → Bool) → Op → Bool
 operands_keep registers places o = list_all (operand_keeps registers places) (operands_of o)
-
--- ---- labels
-
-abbrev pub pair_labels : List (Operand × ℕ) → List ℕ
-pair_labels pairs = map (λ pair. pair.1) pairs
-
-abbrev pub case_labels : List (ℕ × ℕ) → List ℕ
-case_labels cases = map (λ c. c.1) cases
-
--- the labels that a terminator leads to ("Terminator Instructions")
-abbrev pub exits_of : Op → List ℕ
-exits_of (op.Br l) = l ∷ []
-exits_of (op.CondBr c l k) = l ∷ k ∷ []
-exits_of (op.Switch w a l cases) = l ∷ case_labels cases
-exits_of _ = []
-
--- all labels that an instruction names
-abbrev pub labels_of : Op → List ℕ
-labels_of (op.Phi t pairs) = pair_labels pairs
-labels_of (op.Br l) = l ∷ []
-labels_of (op.CondBr c l k) = l ∷ k ∷ []
-labels_of (op.Switch w a l cases) = l ∷ case_labels cases
-labels_of _ = []
-
--- ---- types
-
-abbrev pub argument_types : List (Ty × Operand) → List Ty
-argument_types arguments = map (λ argument. argument.0) arguments
-
-abbrev pub value_types : Option (Ty × Operand) → List Ty
-value_types None = []
-value_types (Some value) = value.0 ∷ []
-
--- the types that an instruction names; an integer's width alone is a type of at most 8 bytes, and is left out
-abbrev pub types_of : Op → List Ty
-types_of (op.Binary o w a b) = []
-types_of (op.Compare p t a b) = t ∷ []
-types_of (op.Cast o t a u) = t ∷ u ∷ []
-types_of (op.Freeze t a) = t ∷ []
-types_of (op.Select c t a b) = t ∷ []
-types_of (op.Phi t pairs) = t ∷ []
-types_of (op.Alloca t count align) = t ∷ []
-types_of (op.Load volatile t a) = t ∷ []
-types_of (op.Store volatile t v a) = t ∷ []
-types_of (op.Gep t a indices) = t ∷ []
-types_of (op.Call t callee arguments) = t ∷ argument_types arguments
-types_of (op.Ret value) = value_types value
-types_of _ = []
-
--- ---- kinds of instructions
-
-abbrev pub is_phi : Op → Bool
-is_phi (op.Phi t pairs) = true
-is_phi _ = false
-
-abbrev pub is_terminator : Op → Bool
-is_terminator (op.Br l) = true
-is_terminator (op.CondBr c l k) = true
-is_terminator (op.Switch w a l cases) = true
-is_terminator (op.Ret value) = true
-is_terminator op.Unreachable = true
-is_terminator _ = false

@@ -11,19 +11,16 @@ use Rattle.no_ir.specs.declared.function.Module.{Module}
 use Rattle.no_verify_types.specs.declared.place.FaultPlace.{FaultPlace}
 use Rattle.no_verify_structure.specs.Finding.{first_break, first_at, first_place}
 use Rattle.no_verify_structure.specs.Names.{is_in, blocks_labels}
-use Rattle.no_verify_structure.specs.Parts.{exits_of, is_phi, pair_labels}
-use Rattle.no_verify_structure.specs.Same.{same_operand}
+use Rattle.no_module.specs.Instructions.{exits_in, is_phi, pair_labels}
+use Rattle.no_module.specs.SameOperands.{same_operand}
 
 -- ---- predecessors, reachable or not
-
-abbrev pub exits_in : Option Instr → List ℕ
-exits_in None = []
-exits_in (Some i) = exits_of i.op
 
 -- the labels that a block's last instruction leads to
 abbrev pub block_exits : Block → List ℕ
 block_exits b = exits_in (slice_get b.instrs (length b.instrs - 1))
 
+-- the last instruction of a block leads to label l
 abbrev pub leads_to : ℕ → Block → Bool
 leads_to l b = is_in (block_exits b) l
 
@@ -33,9 +30,11 @@ predecessors f l = if nat_lt l (length f.labels) then blocks_labels (filter (lea
 
 -- ---- phis
 
+-- each label of either list is in the other, however often and in whatever order
 abbrev pub same_labels : List ℕ → List ℕ → Bool
 same_labels a b = list_all (is_in b) a && list_all (is_in a) b
 
+-- an operand is that of an earlier pair, if there is one
 abbrev pub agrees : Option (Operand × ℕ) → Operand → Bool
 agrees None o = true
 agrees (Some pair) o = same_operand pair.0 o
@@ -61,9 +60,11 @@ phi_allowed b before = nat_lt 0 b && list_all (λ (i : Instr). is_phi i.op) befo
 abbrev pub phis_meet : List ℕ → ℕ → List Instr → Option ℕ
 phis_meet before b instrs = first_break (λ i (instr : Instr). op_meets before (phi_allowed b (take i instrs)) instr.op) 0 instrs
 
+-- the first phi of block b that doesn't meet the block's predecessors
 abbrev pub block_phis : Function → ℕ → Block → Option ℕ
 block_phis f b block = phis_meet (predecessors f block.label) b block.instrs
 
+-- block and place of the first such phi of a function
 abbrev pub function_phis : Function → Option (ℕ × ℕ)
 function_phis f = first_at (block_phis f) 0 f.blocks
 

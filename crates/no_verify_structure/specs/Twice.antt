@@ -14,6 +14,7 @@ use Rattle.no_verify_structure.specs.Names.{is_in, instr_registers, block_regist
 
 -- ---- registers and labels of a function
 
+-- the registers of parameters, in order
 abbrev pub parameter_registers : List (ℕ × Ty) → List ℕ
 parameter_registers params = map (λ p. p.0) params
 
@@ -38,6 +39,7 @@ registers_before f b = parameters_of f ++ flat_map block_registers (take b f.blo
 abbrev pub twice_behind : List ℕ → List ℕ → Block → Option ℕ
 twice_behind labels registers block = if is_in labels block.label then Some 0 else result_twice registers block.instrs
 
+-- the first place of block b at which its label, or a result, is defined a second time
 abbrev pub block_twice : Function → ℕ → Block → Option ℕ
 block_twice f b block = twice_behind (blocks_labels (take b f.blocks)) (registers_before f b) block
 

@@ -11,7 +11,8 @@ use Rattle.no_ir.specs.declared.function.Module.{Module}
 use Rattle.no_verify_types.specs.declared.place.FaultPlace.{FaultPlace}
 use Rattle.no_verify_structure.specs.Finding.{first_instr, first_place, unless_whole}
 use Rattle.no_verify_structure.specs.Names.{is_in, registers_of, labels_defined}
-use Rattle.no_verify_structure.specs.Parts.{constant_keeps, operands_keep, labels_of}
+use Rattle.no_module.specs.Instructions.{labels_of}
+use Rattle.no_verify_structure.specs.Parts.{constant_keeps, operands_keep}
 
 -- a module has a global or a function of each number below their count
 abbrev pub symbol_known : Module → Symbol → Bool
@@ -19,9 +20,11 @@ symbol_known m (symbol.Global k) = nat_lt k (length m.globals)
 symbol_known m (symbol.Function k) = nat_lt k (length m.functions)
 symbol_known m (symbol.Unknown name) = false
 
+-- an address begins at a symbol that the module defines
 abbrev pub place_known : Module → Place → Bool
 place_known m place = symbol_known m place.symbol
 
+-- each address in the first value of a global begins at such a symbol
 abbrev pub global_known : Module → GlobalVar → Bool
 global_known m g = constant_keeps (place_known m) g.init
 

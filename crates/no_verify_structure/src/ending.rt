@@ -5,8 +5,8 @@ ghost use Rattle.no_verify_structure.specs.Ending.{block_ending, ending_fault, e
 ghost use Rattle.no_verify_structure.specs.Finding.{first_at};
 
 use crate::finding::fault_place;
-use crate::parts::is_terminator;
 use no_ir::{Block, Function, Instr, Module, NoMemory};
+use no_module::is_terminator;
 use no_verify_types::FaultPlace;
 
 fn first_terminator(instrs: &[Instr]) -> Option<usize>

@@ -2,15 +2,16 @@ ghost use Rattle.std.specs.Prelude.{◌≡◌, IfOk, IsTrue, true};
 ghost use Rattle.std.specs.List.{list_all};
 ghost use Rattle.no_layout.specs.Sizes.{sizes_of};
 ghost use Rattle.no_layout.specs.Text.{is_formed};
+ghost use Rattle.no_module.specs.Left.{types_left};
 ghost use Rattle.no_room.specs.Fits.{type_fits};
 ghost use Rattle.no_verify_structure.specs.Finding.{first_place, unless};
 ghost use Rattle.no_verify_structure.specs.Large.{IsLargeAnswer, function_large, global_fits, head_fits, instr_fits, large_with};
-ghost use Rattle.no_verify_structure.specs.Parts.{argument_types, types_of};
 
 use crate::finding::{InstrRule, fault_place, first_instr, whole};
 use crate::parts::{NameRule, constant_keeps, operands_keep};
-use no_ir::{Function, GlobalVar, Instr, Module, NoMemory, Op, Operand, Place, Ty};
+use no_ir::{Function, GlobalVar, Instr, Module, NoMemory, Place, Ty};
 use no_layout::{Layout, Sizes, SizesFault};
+use no_module::Types;
 use no_verify_types::FaultPlace;
 use std::alloc::Global;
 
@@ -50,7 +51,7 @@ impl<'a> InstrRule for Fitting<'a> {
     ghost keeps = { λ s. instr_fits s.layout.now s.sizes.now };
 
     fn keeps(&self, instr: &Instr) -> bool {
-        types_fit(self.layout, self.sizes, &instr.op) && operands_keep(self, &instr.op)
+        each_fits(self.layout, self.sizes, Types::of(&instr.op)) && operands_keep(self, &instr.op)
     }
 }
 
@@ -61,41 +62,17 @@ fn fits(layout: &Layout, sizes: &Sizes, t: &Ty) -> bool
     layout.fits(sizes, t)
 }
 
-/// Whether the types that an instruction names fit.
-fn types_fit(layout: &Layout, sizes: &Sizes, op: &Op) -> bool
+/// Whether each type that is left fits.
+fn each_fits(layout: &Layout, sizes: &Sizes, types: Types<'_>) -> bool
     requires { is_formed layout.now ≡ true }
-    ensures { result ≡ list_all (type_fits layout.now sizes.now) (types_of op.now) }
+    ensures { result ≡ list_all (type_fits layout.now sizes.now) (types_left types.entry) }
 {
-    match op {
-        Op::Binary(_, _, _, _) => true,
-        Op::Compare(_, t, _, _) => fits(layout, sizes, t),
-        Op::Cast(_, t, _, u) => fits(layout, sizes, t) && fits(layout, sizes, u),
-        Op::Freeze(t, _) => fits(layout, sizes, t),
-        Op::Select(_, t, _, _) => fits(layout, sizes, t),
-        Op::Phi(t, _) => fits(layout, sizes, t),
-        Op::Alloca(t, _, _) => fits(layout, sizes, t),
-        Op::Load(_, t, _) => fits(layout, sizes, t),
-        Op::Store(_, t, _, _) => fits(layout, sizes, t),
-        Op::Gep(t, _, _) => fits(layout, sizes, t),
-        Op::Call(t, _, arguments) => fits(layout, sizes, t)
-            && arguments_fit(layout, sizes, arguments.as_slice()),
-        Op::Br(_) => true,
-        Op::CondBr(_, _, _) => true,
-        Op::Switch(_, _, _, _) => true,
-        Op::Ret(None) => true,
-        Op::Ret(Some((t, _))) => fits(layout, sizes, t),
-        Op::Unreachable => true,
-    }
-}
-
-fn arguments_fit(layout: &Layout, sizes: &Sizes, arguments: &[(Ty, Operand)]) -> bool
-    requires { is_formed layout.now ≡ true }
-    ensures { result ≡ list_all (type_fits layout.now sizes.now) (argument_types arguments.now) }
-{
-    for argument in arguments {
-        if !fits(layout, sizes, &argument.0) {
+    let mut left = types;
+    while let Some((ty, more)) = left.split_first() {
+        if !fits(layout, sizes, ty) {
             return false;
         }
+        left = more;
     }
     true
 }

@@ -10,7 +10,6 @@ mod numbers;
 mod parts;
 mod phis;
 mod room;
-mod same;
 mod twice;
 mod unknown;
 

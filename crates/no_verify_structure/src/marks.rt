@@ -4,9 +4,9 @@ ghost use Rattle.no_verify_structure.specs.Marks.{address_fits, address_list, ad
 
 use crate::finding::{InstrRule, fault_place, first_instr, whole};
 use crate::numbers::Numbers;
-use crate::parts::{NameRule, arguments_keep, operand_keeps, operands_keep};
+use crate::parts::{NameRule, each_keeps, operand_keeps, operands_keep};
 use no_ir::{BinOp, CastOp, Function, Instr, Module, NoMemory, Op, Place, Role, Symbol};
-use no_module::is_declared;
+use no_module::{Operands, is_declared};
 use no_verify_types::{FaultPlace, direct, is_intrinsic};
 use std::alloc::Global;
 
@@ -114,7 +114,7 @@ fn functions_called(op: &Op) -> bool
     match op {
         Op::Call(_, callee, arguments) => {
             (direct(callee).is_some() || operand_keeps(&Free, callee))
-                && arguments_keep(&Free, arguments.as_slice())
+                && each_keeps(&Free, Operands::Arguments(arguments.as_slice()))
         }
         _ => operands_keep(&Free, op),
     }

@@ -1,9 +1,11 @@
 ghost use Rattle.std.specs.Prelude.{◌≡◌, IfOk, OnOk, [], not};
 ghost use Rattle.std.specs.List.{list_all};
+ghost use Rattle.no_module.specs.Left.{labels_left};
 ghost use Rattle.no_verify_structure.specs.Names.{is_in, with_number};
 
 use indexmap::IndexSet;
 use no_ir::NoMemory;
+use no_module::Labels;
 use std::alloc::Global;
 use std::marker::Model;
 
@@ -43,6 +45,20 @@ impl Numbers {
     {
         let (_, new) = self.set.insert_full(number)?;
         Ok(new)
+    }
+
+    /// Whether each label that is left is a number of the set.
+    pub(crate) fn has_each(&self, labels: Labels<'_>) -> bool
+        ensures { result ≡ list_all (is_in self.now) (labels_left labels.entry) }
+    {
+        let mut left = labels;
+        while let Some((label, more)) = left.split_first() {
+            if !self.has(label) {
+                return false;
+            }
+            left = more;
+        }
+        true
     }
 
     /// Whether all are numbers of another set.

@@ -1,8 +1,10 @@
 ghost use Rattle.std.specs.Prelude.{◌≡◌, Bool, map, true};
 ghost use Rattle.std.specs.List.{list_all};
-ghost use Rattle.no_verify_structure.specs.Parts.{argument_operands, constant_keeps, count_operands, index_operands, is_phi, is_terminator, operand_keeps, operands_keep, pair_operands, value_operands};
+ghost use Rattle.no_module.specs.Left.{operands_left};
+ghost use Rattle.no_verify_structure.specs.Parts.{constant_keeps, operand_keeps, operands_keep};
 
-use no_ir::{Const, Op, Operand, Place, Ty};
+use no_ir::{Const, Op, Operand, Place};
+use no_module::Operands;
 
 /// A rule on what operands name: registers, and addresses in constants.
 pub(crate) trait NameRule {
@@ -69,102 +71,20 @@ pub(crate) fn operands_keep<T: NameRule>(rule: &T, op: &Op) -> bool
     requires { T.ready rule.now ≡ true }
     ensures { result ≡ operands_keep (T.registers rule.now) (T.places rule.now) op.now }
 {
-    match op {
-        Op::Binary(_, _, a, b) => operand_keeps(rule, a) && operand_keeps(rule, b),
-        Op::Compare(_, _, a, b) => operand_keeps(rule, a) && operand_keeps(rule, b),
-        Op::Cast(_, _, a, _) => operand_keeps(rule, a),
-        Op::Freeze(_, a) => operand_keeps(rule, a),
-        Op::Select(c, _, a, b) => operand_keeps(rule, c)
-            && (operand_keeps(rule, a) && operand_keeps(rule, b)),
-        Op::Phi(_, pairs) => pairs_keep(rule, pairs.as_slice()),
-        Op::Alloca(_, count, _) => count_keeps(rule, count),
-        Op::Load(_, _, a) => operand_keeps(rule, a),
-        Op::Store(_, _, v, a) => operand_keeps(rule, v) && operand_keeps(rule, a),
-        Op::Gep(_, a, indices) => operand_keeps(rule, a) && indices_keep(rule, indices.as_slice()),
-        Op::Call(_, callee, arguments) => operand_keeps(rule, callee)
-            && arguments_keep(rule, arguments.as_slice()),
-        Op::Br(_) => true,
-        Op::CondBr(c, _, _) => operand_keeps(rule, c),
-        Op::Switch(_, a, _, _) => operand_keeps(rule, a),
-        Op::Ret(value) => value_keeps(rule, value),
-        Op::Unreachable => true,
-    }
+    each_keeps(rule, Operands::of(op))
 }
 
-fn pairs_keep<T: NameRule>(rule: &T, pairs: &[(Operand, u32)]) -> bool
+/// Whether each operand that is left keeps a rule.
+pub(crate) fn each_keeps<T: NameRule>(rule: &T, operands: Operands<'_>) -> bool
     requires { T.ready rule.now ≡ true }
-    ensures { result ≡ list_all (operand_keeps (T.registers rule.now) (T.places rule.now)) (pair_operands pairs.now) }
+    ensures { result ≡ list_all (operand_keeps (T.registers rule.now) (T.places rule.now)) (operands_left operands.entry) }
 {
-    for pair in pairs {
-        if !operand_keeps(rule, &pair.0) {
+    let mut left = operands;
+    while let Some((operand, more)) = left.split_first() {
+        if !operand_keeps(rule, operand) {
             return false;
         }
+        left = more;
     }
     true
-}
-
-fn count_keeps<T: NameRule>(rule: &T, count: &Option<(u8, Operand)>) -> bool
-    requires { T.ready rule.now ≡ true }
-    ensures { result ≡ list_all (operand_keeps (T.registers rule.now) (T.places rule.now)) (count_operands count.now) }
-{
-    match count {
-        None => true,
-        Some((_, operand)) => operand_keeps(rule, operand),
-    }
-}
-
-fn value_keeps<T: NameRule>(rule: &T, value: &Option<(Ty, Operand)>) -> bool
-    requires { T.ready rule.now ≡ true }
-    ensures { result ≡ list_all (operand_keeps (T.registers rule.now) (T.places rule.now)) (value_operands value.now) }
-{
-    match value {
-        None => true,
-        Some((_, operand)) => operand_keeps(rule, operand),
-    }
-}
-
-fn indices_keep<T: NameRule>(rule: &T, indices: &[(u8, Operand)]) -> bool
-    requires { T.ready rule.now ≡ true }
-    ensures { result ≡ list_all (operand_keeps (T.registers rule.now) (T.places rule.now)) (index_operands indices.now) }
-{
-    for index in indices {
-        if !operand_keeps(rule, &index.1) {
-            return false;
-        }
-    }
-    true
-}
-
-/// Whether all arguments of a call keep a rule.
-pub(crate) fn arguments_keep<T: NameRule>(rule: &T, arguments: &[(Ty, Operand)]) -> bool
-    requires { T.ready rule.now ≡ true }
-    ensures { result ≡ list_all (operand_keeps (T.registers rule.now) (T.places rule.now)) (argument_operands arguments.now) }
-{
-    for argument in arguments {
-        if !operand_keeps(rule, &argument.1) {
-            return false;
-        }
-    }
-    true
-}
-
-/// Whether an instruction is a phi.
-pub(crate) fn is_phi(op: &Op) -> bool
-    ensures { result ≡ is_phi op.now }
-{
-    matches!(op, Op::Phi(_, _))
-}
-
-/// Whether an instruction is a terminator.
-pub(crate) fn is_terminator(op: &Op) -> bool
-    ensures { result ≡ is_terminator op.now }
-{
-    match op {
-        Op::Br(_) => true,
-        Op::CondBr(_, _, _) => true,
-        Op::Switch(_, _, _, _) => true,
-        Op::Ret(_) => true,
-        Op::Unreachable => true,
-        _ => false,
-    }
 }

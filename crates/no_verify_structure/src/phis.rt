@@ -5,15 +5,14 @@ ghost use Rattle.indexmap.specs.IndexMap.{get};
 ghost use Rattle.no_verify_structure.specs.Edges.{AreFirst, entry_of, first_pair, pair_at, table_of, with_edge, with_exits};
 ghost use Rattle.no_verify_structure.specs.Finding.{first_at, first_place};
 ghost use Rattle.no_verify_structure.specs.Names.{is_in};
-ghost use Rattle.no_verify_structure.specs.Parts.{case_labels, exits_of, pair_labels};
+ghost use Rattle.no_module.specs.Instructions.{exits_of, pair_labels};
 ghost use Rattle.no_verify_structure.specs.Phis.{agrees, block_exits, block_phis, function_phis, op_meets, pair_of, pairs_agree, phi_allowed, phis_meet, phis_of, predecessors, same_labels};
 
 use crate::finding::fault_place;
 use crate::numbers::Numbers;
-use crate::parts::is_phi;
-use crate::same::same_operand;
 use indexmap::IndexMap;
 use no_ir::{Block, Function, Instr, Module, NoMemory, Op, Operand};
+use no_module::{Labels, is_phi, same_operand};
 use no_verify_types::FaultPlace;
 use std::alloc::Global;
 
@@ -39,31 +38,16 @@ fn put_edge(table: &mut [Numbers], from: u32, to: u32) -> Result<(), NoMemory>
     Ok(())
 }
 
-fn put_cases(table: &mut [Numbers], from: u32, cases: &[(u64, u32)]) -> Result<(), NoMemory>
-    ensures { OnOk result (table.new ≡ fold (with_edge from) table.old (case_labels cases.now)) }
-{
-    for case in cases {
-        put_edge(table, from, case.1)?;
-    }
-    Ok(())
-}
-
 /// Puts in that a label leads to all labels of a terminator.
 fn put_exits(table: &mut [Numbers], from: u32, op: &Op) -> Result<(), NoMemory>
     ensures { OnOk result (table.new ≡ fold (with_edge from) table.old (exits_of op.now)) }
 {
-    match op {
-        Op::Br(l) => put_edge(table, from, *l),
-        Op::CondBr(_, l, k) => {
-            put_edge(table, from, *l)?;
-            put_edge(table, from, *k)
-        }
-        Op::Switch(_, _, l, cases) => {
-            put_edge(table, from, *l)?;
-            put_cases(table, from, cases.as_slice())
-        }
-        _ => Ok(()),
+    let mut left = Labels::exits(op);
+    while let Some((label, more)) = left.split_first() {
+        put_edge(table, from, label)?;
+        left = more;
     }
+    Ok(())
 }
 
 fn put_block(table: &mut [Numbers], block: &Block) -> Result<(), NoMemory>
@@ -115,24 +99,13 @@ fn phi_labels(alloc: Global, pairs: &[(Operand, u32)]) -> Result<Numbers, NoMemo
     Ok(all)
 }
 
-fn labels_within(before: &Numbers, pairs: &[(Operand, u32)]) -> bool
-    ensures { result ≡ list_all (is_in before.now) (pair_labels pairs.now) }
-{
-    for pair in pairs {
-        if !before.has(pair.1) {
-            return false;
-        }
-    }
-    true
-}
-
 /// Whether the labels of a phi are just these.
 #[tactic(auto, using(crate::proofs::Members::same_tests))]
 fn same_labels(alloc: Global, before: &Numbers, pairs: &[(Operand, u32)]) -> Result<bool, NoMemory>
     ensures { IfOk result (λ same. same ≡ same_labels (pair_labels pairs.now) before.now) }
 {
     let labels = phi_labels(alloc, pairs)?;
-    Ok(labels_within(before, pairs) && before.are_in(&labels))
+    Ok(before.has_each(Labels::Pairs(pairs)) && before.are_in(&labels))
 }
 
 /// The first pair with a label, by the table of the first ones.

@@ -2,13 +2,13 @@ ghost use Rattle.std.specs.Prelude.{◌≡◌, ◌||◌, ℕ, IfOk, OnOk, map};
 ghost use Rattle.std.specs.List.{flat_map, list_all};
 ghost use Rattle.no_verify_structure.specs.Finding.{first_place};
 ghost use Rattle.no_verify_structure.specs.Names.{block_registers, instr_registers, is_in, labels_defined, registers_of};
-ghost use Rattle.no_verify_structure.specs.Parts.{case_labels, labels_of, pair_labels};
 ghost use Rattle.no_verify_structure.specs.Unknown.{function_unknown, global_known, instr_known, place_known, symbol_known, unknown_of};
 
 use crate::finding::{InstrRule, fault_place, first_instr, whole};
 use crate::numbers::Numbers;
 use crate::parts::{NameRule, constant_keeps, operands_keep};
-use no_ir::{Block, Function, GlobalVar, Instr, Module, NoMemory, Op, Operand, Place, Symbol, Ty};
+use no_ir::{Block, Function, GlobalVar, Instr, Module, NoMemory, Place, Symbol, Ty};
+use no_module::Labels;
 use no_verify_types::FaultPlace;
 use std::alloc::Global;
 
@@ -49,7 +49,7 @@ impl<'a> InstrRule for Known<'a> {
     ghost keeps = { λ s. instr_known s.program.now s.registers.now s.labels.now };
 
     fn keeps(&self, instr: &Instr) -> bool {
-        operands_keep(self, &instr.op) && has_labels(self.labels, &instr.op)
+        operands_keep(self, &instr.op) && self.labels.has_each(Labels::of(&instr.op))
     }
 }
 
@@ -62,40 +62,6 @@ fn has_symbol(program: &Module, symbol: &Symbol) -> bool
         Symbol::Function(k) => (*k as usize) < program.functions.len(),
         Symbol::Unknown(_) => false,
     }
-}
-
-fn has_labels(labels: &Numbers, op: &Op) -> bool
-    ensures { result ≡ list_all (is_in labels.now) (labels_of op.now) }
-{
-    match op {
-        Op::Phi(_, pairs) => has_pairs(labels, pairs.as_slice()),
-        Op::Br(l) => labels.has(*l),
-        Op::CondBr(_, l, k) => labels.has(*l) && labels.has(*k),
-        Op::Switch(_, _, l, cases) => labels.has(*l) && has_cases(labels, cases.as_slice()),
-        _ => true,
-    }
-}
-
-fn has_pairs(labels: &Numbers, pairs: &[(Operand, u32)]) -> bool
-    ensures { result ≡ list_all (is_in labels.now) (pair_labels pairs.now) }
-{
-    for pair in pairs {
-        if !labels.has(pair.1) {
-            return false;
-        }
-    }
-    true
-}
-
-fn has_cases(labels: &Numbers, cases: &[(u64, u32)]) -> bool
-    ensures { result ≡ list_all (is_in labels.now) (case_labels cases.now) }
-{
-    for case in cases {
-        if !labels.has(case.1) {
-            return false;
-        }
-    }
-    true
 }
 
 /// Puts in the registers that instructions assign.

@@ -4,3 +4,4 @@ pub mod Tables
 pub mod Differ
 pub mod Marks
 pub mod Firsts
+pub mod Taking

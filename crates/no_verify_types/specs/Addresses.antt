@@ -23,6 +23,7 @@ is_helper Part name = bytes_eq name (codes "no.alloca") || bytes_eq name (codes 
 abbrev pub is_intrinsic : Role → Function → Bool
 is_intrinsic role f = is_declared f && (begins_with (codes "llvm.") f.name || is_helper role f.name)
 
+-- a function is no intrinsic; a number that no function has is judged with the unknown names
 abbrev pub may_be_taken : Role → Option Function → Bool
 may_be_taken role None = true
 may_be_taken role (Some f) = not (is_intrinsic role f)
@@ -38,9 +39,11 @@ has_address m role _ = true
 abbrev pub field_below : ℕ → Option ℕ
 field_below n = if nat_lt n (2 ^ 31) then Some n else None
 
+-- the number of a field that a constant index states, none where it is negative or needs more than 31 bits
 abbrev pub constant_field : ℤ → Option ℕ
 constant_field z = if int_lt z (pos 0) then None else field_below (unsigned_abs z)
 
+-- the type of the field that an index numbers, if there is one
 abbrev pub field_of : List Ty → Option ℕ → Option Ty
 field_of fields None = None
 field_of fields (Some i) = slice_get fields i
@@ -51,9 +54,11 @@ part_in (Ty-F.Array count element) i = Some element
 part_in (Ty-F.Struct packed fields) i = field_of fields i
 part_in _ i = None
 
+-- the type of what an index leads to inside a type that is no name
 abbrev pub part_of : Ty → Option ℕ → Option Ty
 part_of t i = part_in (out-Ty t) i
 
+-- an index leads to a type, from which the other indices lead on
 abbrev pub leads_on : Option Ty → (Ty → Bool) → Bool
 leads_on None more = false
 leads_on (Some t) more = more t

@@ -17,6 +17,7 @@ use Rattle.no_verify_types.specs.Addresses.{place_fits}
 
 -- ---- constants of integer types and of ptr
 
+-- an integer type, of which n is a number
 abbrev pub is_number_below : ℕ → Scalar → Bool
 is_number_below n (scalar.Int w) = nat_lt n (2 ^ w)
 is_number_below n scalar.Ptr = false
@@ -26,6 +27,7 @@ abbrev pub number_fits : ℕ → Option Scalar → Bool
 number_fits n None = false
 number_fits n (Some s) = is_number_below n s
 
+-- a type that there is, and that is an integer type
 abbrev pub integer_type : Option Scalar → Bool
 integer_type None = false
 integer_type (Some s) = not (is_pointer s)
@@ -39,11 +41,13 @@ value_step m role s (Const-F.AddressAsInt place) = integer_type s && place_fits 
 value_step m role s (Const-F.IntAsPtr n) = is_of scalar.Ptr s
 value_step m role s _ = false
 
+-- a constant is of this integer type or of ptr; none is of no type
 abbrev pub value_fits : Module → Role → Option Scalar → Const → Bool
 value_fits m role s c = value_step m role s (out-Const c)
 
 -- ---- constants of all types
 
+-- the outermost layer of a type is i8
 abbrev pub byte_step : Ty-F Ty → Bool
 byte_step (Ty-F.Int w) = w == 8
 byte_step _ = false
@@ -58,6 +62,7 @@ abbrev pub elements_fit : List (Ty → Bool) → Ty-F Ty → Bool
 elements_fit elements (Ty-F.Array count element) = length elements == count && list_all (λ fits. fits element) elements
 elements_fit elements _ = false
 
+-- a struct of exactly these fields
 abbrev pub fields_fit : List (Ty → Bool) → Ty-F Ty → Bool
 fields_fit fields (Ty-F.Struct packed ts) = each_meets fields ts
 fields_fit fields _ = false

@@ -1,7 +1,6 @@
 -- The functions that a module names: in first values, and in operands of reachable code and of any other.
 use Rattle.std.specs.Prelude.{ℕ, ◌+◌, Bool, ◌&&◌, not, nat_eq, if◌then◌else◌, List, [], ◌∷◌, ◌++◌, Option, Some, None}
 use Rattle.std.specs.List.{concat, flat_map, list_any}
-use Rattle.no_ir.specs.declared.types.Ty.{Ty}
 use Rattle.no_ir.specs.declared.constant.Const.{Const}
 use Rattle.no_ir.specs.declared.constant.Const.TheOpen.{Const-F}
 use Rattle.no_ir.specs.declared.constant.Const.TheFolds.{fold-Const}
@@ -10,7 +9,6 @@ use Rattle.no_ir.specs.declared.constant.Symbol.TheVariants as symbol
 use Rattle.no_ir.specs.declared.instruction.Operand.{Operand}
 use Rattle.no_ir.specs.declared.instruction.Operand.TheVariants as operand
 use Rattle.no_ir.specs.declared.instruction.Op.{Op}
-use Rattle.no_ir.specs.declared.instruction.Op.TheVariants as op
 use Rattle.no_ir.specs.declared.instruction.Instr.{Instr}
 use Rattle.no_ir.specs.declared.function.Block.{Block}
 use Rattle.no_ir.specs.declared.function.Function.{Function}
@@ -19,11 +17,14 @@ use Rattle.no_ir.specs.declared.function.Module.{Module}
 use Rattle.no_ir.specs.declared.function.Role.{Role}
 use Rattle.no_module.specs.Functions.{is_declared}
 use Rattle.no_module.specs.Externals.{is_external}
+use Rattle.no_module.specs.Instructions.{operands_of}
 
+-- the number of the function that a symbol names, if it names one
 abbrev pub symbol_names : Symbol → List ℕ
 symbol_names (symbol.Function k) = k ∷ []
 symbol_names _ = []
 
+-- the functions that a constant names, from those that its parts name
 abbrev pub constant_step : Const-F (List ℕ) → List ℕ
 constant_step (Const-F.Array elements) = concat elements
 constant_step (Const-F.Struct fields) = concat fields
@@ -35,42 +36,24 @@ constant_step _ = []
 abbrev pub constant_names : Const → List ℕ
 constant_names = fold-Const (List ℕ) constant_step
 
+-- those that an operand names; a register names none
 abbrev pub operand_names : Operand → List ℕ
 operand_names (operand.Reg r) = []
 operand_names (operand.Const c) = constant_names c
 
-abbrev pub count_names : Option (ℕ × Operand) → List ℕ
-count_names None = []
-count_names (Some count) = operand_names count.1
-
-abbrev pub value_names : Option (Ty × Operand) → List ℕ
-value_names None = []
-value_names (Some x) = operand_names x.1
-
--- those that an instruction names
+-- those that an instruction names, in order
 abbrev pub op_names : Op → List ℕ
-op_names (op.Binary o w a b) = operand_names a ++ operand_names b
-op_names (op.Compare p t a b) = operand_names a ++ operand_names b
-op_names (op.Cast o t a u) = operand_names a
-op_names (op.Freeze t a) = operand_names a
-op_names (op.Select c t a b) = operand_names c ++ (operand_names a ++ operand_names b)
-op_names (op.Phi t pairs) = flat_map (λ pair. operand_names pair.0) pairs
-op_names (op.Alloca t count align) = count_names count
-op_names (op.Load volatile t a) = operand_names a
-op_names (op.Store volatile t v a) = operand_names v ++ operand_names a
-op_names (op.Gep t a indices) = operand_names a ++ flat_map (λ index. operand_names index.1) indices
-op_names (op.Call t callee args) = operand_names callee ++ flat_map (λ arg. operand_names arg.1) args
-op_names (op.CondBr c l k) = operand_names c
-op_names (op.Switch w a l cases) = operand_names a
-op_names (op.Ret x) = value_names x
-op_names _ = []
+op_names o = flat_map operand_names (operands_of o)
 
+-- those that the instructions of a block name
 abbrev pub block_names : Block → List ℕ
 block_names b = flat_map (λ (i : Instr). op_names i.op) b.instrs
 
+-- those that a function's code names, reachable or not
 abbrev pub function_names : Function → List ℕ
 function_names f = flat_map block_names f.blocks
 
+-- those that the first value of a global names
 abbrev pub global_names : GlobalVar → List ℕ
 global_names g = constant_names g.init
 
@@ -80,6 +63,7 @@ module_names m = flat_map global_names m.globals ++ flat_map function_names m.fu
 
 -- ---- declared functions that are used and unknown
 
+-- function k is among those that are named
 abbrev pub is_named : List ℕ → ℕ → Bool
 is_named names k = list_any (nat_eq k) names
 

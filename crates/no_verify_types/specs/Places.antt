@@ -21,6 +21,7 @@ pub record Rule : Type 0 where
 
 -- ---- the first in a list
 
+-- what was found at number k, or else what is found behind it
 abbrev pub found_or : {B : Type 0} → ℕ → Option B → Option (ℕ × B) → Option (ℕ × B)
 found_or k None other = other
 found_or k (Some b) other = Some (k, b)
@@ -44,9 +45,11 @@ wrong_among keeps blocks = first_found (wrong_in keeps) 0 blocks
 abbrev pub function_fault : Rule → Function → Option (ℕ × ℕ)
 function_fault rule f = if rule.keeps_head f then wrong_among (rule.keeps_instr f) f.blocks else Some (0, 0)
 
+-- the place of an instruction, by the numbers of its function, its block and itself
 abbrev pub fault_at : ℕ → ℕ → ℕ → FaultPlace
 fault_at function block place = record { function = function; block = block; place = place }
 
+-- the number of a function with block and place in it, as a place of the module
 abbrev pub placed : Option (ℕ × (ℕ × ℕ)) → Option FaultPlace
 placed None = None
 placed (Some p) = Some (fault_at p.0 p.1.0 p.1.1)
@@ -71,6 +74,7 @@ type_fault_of m role = first_fault (typed m role) m
 
 -- ---- externals
 
+-- the place of what concerns a function as a whole: its block 0, place 0
 abbrev pub at_function : Option ℕ → Option FaultPlace
 at_function None = None
 at_function (Some k) = Some (fault_at k 0 0)

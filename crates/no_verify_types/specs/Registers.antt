@@ -27,16 +27,20 @@ result_of _ = None
 
 -- ---- what a function defines: a register, and its type
 
+-- the register of a result with the result's type; nothing where no register is assigned
 abbrev pub result_defined : Option ℕ → Option Scalar → List (ℕ × Option Scalar)
 result_defined None s = []
 result_defined (Some r) s = (r, s) ∷ []
 
+-- the register that an instruction defines, with its type
 abbrev pub instr_defined : Instr → List (ℕ × Option Scalar)
 instr_defined i = result_defined i.result (result_of i.op)
 
+-- the registers that the instructions of a block define, in order
 abbrev pub block_defined : Block → List (ℕ × Option Scalar)
 block_defined b = flat_map instr_defined b.instrs
 
+-- the register that a parameter defines, with its type
 abbrev pub param_defined : ℕ × Ty → ℕ × Option Scalar
 param_defined p = (p.0, scalar_of p.1)
 
@@ -46,6 +50,7 @@ all_defined f = map param_defined f.params ++ flat_map block_defined f.blocks
 
 -- ---- the type of a register: that of its first definition
 
+-- the type of register r in its first definition, none where nothing defines it
 abbrev pub first_type : List (ℕ × Option Scalar) → ℕ → Option Scalar
 first_type [] r = None
 first_type (d ∷ more) r = if d.0 == r then d.1 else first_type more r
@@ -54,6 +59,7 @@ first_type (d ∷ more) r = if d.0 == r then d.1 else first_type more r
 abbrev pub register_types : Function → List (Option Scalar)
 register_types f = map (first_type (all_defined f)) (range_with_len 0 (length f.registers))
 
+-- the type that a table has for a register, none where it has no such register
 abbrev pub known_type : Option (Option Scalar) → Option Scalar
 known_type None = None
 known_type (Some s) = s

@@ -43,6 +43,7 @@ argument_fits m role types x = operand_fits m role types (scalar_of x.0) x.1
 abbrev pub integer_fits : Module → Role → List (Option Scalar) → ℕ × Operand → Bool
 integer_fits m role types x = operand_fits m role types (integer x.0) x.1
 
+-- the number that a constant states, none where it is no integer
 abbrev pub number_step : {A : Type 0} → Const-F A → Option ℕ
 number_step (Const-F.Int n) = Some n
 number_step _ = None
@@ -52,15 +53,18 @@ abbrev pub number_of : Operand → Option ℕ
 number_of (operand.Reg r) = None
 number_of (operand.Const c) = number_step (out-Const c)
 
+-- an operand is written as a number
 abbrev pub is_number : Operand → Bool
 is_number o = is_some (number_of o)
 
 -- ---- conversions: the types that each goes between
 
+-- from an integer type to one of fewer bits
 abbrev pub narrows : Scalar → Scalar → Bool
 narrows (scalar.Int v) (scalar.Int w) = nat_lt w v
 narrows _ _ = false
 
+-- a conversion takes a value of type s and gives one of type t
 abbrev pub goes_between : CastOp → Scalar → Scalar → Bool
 goes_between cast.Trunc s t = narrows s t
 goes_between cast.ZExt s t = narrows t s
@@ -69,30 +73,35 @@ goes_between cast.PtrToInt s t = is_pointer s && not (is_pointer t)
 goes_between cast.IntToPtr s t = not (is_pointer s) && is_pointer t
 goes_between cast.BitCast s t = is_pointer s && is_pointer t
 
+-- a conversion goes between two types, both of which registers hold
 abbrev pub converts : CastOp → Option Scalar → Option Scalar → Bool
 converts o (Some s) (Some t) = goes_between o s t
 converts o _ _ = false
 
 -- ---- indices of an instruction: the number of a field is a constant i32
 
+-- the number of a field, where one is written that a signed index of 32 bits can state
 abbrev pub field_in : Option ℕ → Option ℕ
 field_in None = None
 field_in (Some n) = field_below n
 
+-- the number of a field that an index of an instruction states: a constant i32
 abbrev pub stated_field : ℕ × Operand → Option ℕ
 stated_field index = if index.0 == 32 then field_in (number_of index.1) else None
 
 -- ---- calls
 
--- the function that a callee names: a bare name alone calls it directly, and all else is called through a pointer
+-- function k, where no indices follow its name
 abbrev pub bare_function : Symbol → ℕ → Option ℕ
 bare_function (symbol.Function k) indices = if indices == 0 then Some k else None
 bare_function _ indices = None
 
+-- the function whose bare name a constant is
 abbrev pub named_step : {A : Type 0} → Const-F A → Option ℕ
 named_step (Const-F.Address place) = bare_function place.symbol (length place.indices)
 named_step _ = None
 
+-- the function that a callee names: a bare name alone calls it directly, and all else is called through a pointer
 abbrev pub direct : Operand → Option ℕ
 direct (operand.Reg r) = None
 direct (operand.Const c) = named_step (out-Const c)
@@ -105,14 +114,17 @@ is_passed arg param = agree (scalar_of arg.0) (scalar_of param.1)
 abbrev pub args_match : List (Ty × Operand) → List (ℕ × Ty) → Bool
 args_match args params = each_meets (map is_passed args) params
 
+-- an argument that there is, and that is written as a number
 abbrev pub is_stated : Option (Ty × Operand) → Bool
 is_stated None = false
 is_stated (Some arg) = is_number arg.1
 
+-- a number that there is, and that is an alignment
 abbrev pub aligns : Option ℕ → Bool
 aligns None = false
 aligns (Some n) = is_alignment n
 
+-- an argument that there is, and that is written as an alignment
 abbrev pub is_aligned : Option (Ty × Operand) → Bool
 is_aligned None = false
 is_aligned (Some arg) = aligns (number_of arg.1)
@@ -129,6 +141,7 @@ abbrev pub calls : Role → Ty → List (Ty × Operand) → Option Function → 
 calls role t args None = false
 calls role t args (Some g) = same_result t g.result && (args_match args g.params && numbers_stated (declared_external role g) args)
 
+-- a function that is called directly fits the call, and any other callee is a ptr
 abbrev pub callee_fits : Module → Role → List (Option Scalar) → Ty → Operand → List (Ty × Operand) → Option ℕ → Bool
 callee_fits m role types t callee args None = operand_fits m role types (Some scalar.Ptr) callee
 callee_fits m role types t callee args (Some k) = calls role t args (slice_get m.functions k)
@@ -140,6 +153,7 @@ abbrev pub all_differ : List ℕ → Bool
 all_differ [] = true
 all_differ (n ∷ more) = not (list_any (nat_eq n) more) && all_differ more
 
+-- the numbers of a switch's cases, in order
 abbrev pub case_numbers : List (ℕ × ℕ) → List ℕ
 case_numbers cases = map (λ c. c.0) cases
 
@@ -152,12 +166,14 @@ abbrev pub returns : Module → Role → List (Option Scalar) → Ty → Option 
 returns m role types result None = is_void result
 returns m role types result (Some x) = agree (scalar_of x.0) (scalar_of result) && argument_fits m role types x
 
+-- a stated count of an alloca is of its width; one that isn't stated fits
 abbrev pub count_fits : Module → Role → List (Option Scalar) → Option (ℕ × Operand) → Bool
 count_fits m role types None = true
 count_fits m role types (Some count) = integer_fits m role types count
 
 -- ---- instructions, in a function that gives `result` and has registers of these types
 
+-- two operands are of one type
 abbrev pub both_fit : Module → Role → List (Option Scalar) → Option Scalar → Operand → Operand → Bool
 both_fit m role types s a b = operand_fits m role types s a && operand_fits m role types s b
 
@@ -194,6 +210,7 @@ call_typed m role types t callee args = is_result t && (list_all (argument_fits 
 abbrev pub switch_typed : Module → Role → List (Option Scalar) → ℕ → Operand → List (ℕ × ℕ) → Bool
 switch_typed m role types w a cases = operand_fits m role types (integer w) a && cases_fit w (case_numbers cases)
 
+-- the operands of an instruction have the types that its row asks for
 unfoldable pub op_typed : Module → Role → Ty → List (Option Scalar) → Op → Bool
 op_typed m role result types (op.Binary o w a b) = both_fit m role types (integer w) a b
 op_typed m role result types (op.Compare p t a b) = both_fit m role types (scalar_of t) a b
@@ -214,5 +231,6 @@ op_typed m role result types op.Unreachable = true
 
 -- ---- functions: a defined one takes values, and gives a value or nothing
 
+-- a function takes values alone and gives a value or nothing; a declared one is judged as an external
 abbrev pub head_typed : Function → Bool
 head_typed f = is_declared f || (is_result f.result && list_all (λ p. is_scalar p.1) f.params)

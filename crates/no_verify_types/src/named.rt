@@ -1,8 +1,10 @@
 ghost use Rattle.std.specs.Prelude.{◌≡◌, ◌++◌, map, IfOk, OnOk};
 ghost use Rattle.std.specs.List.{concat, flat_map};
-ghost use Rattle.no_verify_types.specs.Named.{block_names, constant_names, count_names, function_names, global_names, module_names, op_names, operand_names, symbol_names, value_names};
+ghost use Rattle.no_module.specs.Left.{operands_left};
+ghost use Rattle.no_verify_types.specs.Named.{block_names, constant_names, function_names, global_names, module_names, op_names, operand_names, symbol_names};
 
-use no_ir::{Block, Const, Function, GlobalVar, Instr, Module, NoMemory, Op, Operand, Symbol, Ty};
+use no_ir::{Block, Const, Function, GlobalVar, Instr, Module, NoMemory, Operand, Symbol};
+use no_module::Operands;
 use std::alloc::Global;
 
 fn add_symbol(names: &mut Vec<u32>, symbol: &Symbol) -> Result<(), NoMemory>
@@ -49,115 +51,24 @@ fn add_operand(names: &mut Vec<u32>, operand: &Operand) -> Result<(), NoMemory>
     }
 }
 
-fn add_two(names: &mut Vec<u32>, left: &Operand, right: &Operand) -> Result<(), NoMemory>
-    ensures { OnOk result (names.new.items ≡ names.old.items ++ (operand_names left.now ++ operand_names right.now)) }
+/// Adds the functions that operands name.
+#[tactic(auto, using(crate::proofs::Taking::names_taken))]
+fn add_operands(names: &mut Vec<u32>, operands: Operands<'_>) -> Result<(), NoMemory>
+    ensures { OnOk result (names.new.items ≡ names.old.items ++ flat_map operand_names (operands_left operands.entry)) }
 {
-    add_operand(names, left)?;
-    add_operand(names, right)
-}
-
-fn add_choice(
-    names: &mut Vec<u32>,
-    condition: &Operand,
-    chosen: &Operand,
-    other: &Operand,
-) -> Result<(), NoMemory>
-    ensures { OnOk result (names.new.items ≡ names.old.items ++ (operand_names condition.now ++ (operand_names chosen.now ++ operand_names other.now))) }
-{
-    add_operand(names, condition)?;
-    add_two(names, chosen, other)
-}
-
-fn add_pairs(names: &mut Vec<u32>, pairs: &[(Operand, u32)]) -> Result<(), NoMemory>
-    ensures { OnOk result (names.new.items ≡ names.old.items ++ flat_map (λ pair. operand_names pair.0) pairs.now) }
-{
-    for pair in pairs {
-        add_operand(names, &pair.0)?;
+    let mut left = operands;
+    while let Some((operand, more)) = left.split_first() {
+        add_operand(names, operand)?;
+        left = more;
     }
     Ok(())
-}
-
-fn add_indices(names: &mut Vec<u32>, indices: &[(u8, Operand)]) -> Result<(), NoMemory>
-    ensures { OnOk result (names.new.items ≡ names.old.items ++ flat_map (λ index. operand_names index.1) indices.now) }
-{
-    for index in indices {
-        add_operand(names, &index.1)?;
-    }
-    Ok(())
-}
-
-fn add_args(names: &mut Vec<u32>, args: &[(Ty, Operand)]) -> Result<(), NoMemory>
-    ensures { OnOk result (names.new.items ≡ names.old.items ++ flat_map (λ arg. operand_names arg.1) args.now) }
-{
-    for arg in args {
-        add_operand(names, &arg.1)?;
-    }
-    Ok(())
-}
-
-fn add_path(
-    names: &mut Vec<u32>,
-    address: &Operand,
-    indices: &[(u8, Operand)],
-) -> Result<(), NoMemory>
-    ensures { OnOk result (names.new.items ≡ names.old.items ++ (operand_names address.now ++ flat_map (λ index. operand_names index.1) indices.now)) }
-{
-    add_operand(names, address)?;
-    add_indices(names, indices)
-}
-
-fn add_call(names: &mut Vec<u32>, callee: &Operand, args: &[(Ty, Operand)]) -> Result<(), NoMemory>
-    ensures { OnOk result (names.new.items ≡ names.old.items ++ (operand_names callee.now ++ flat_map (λ arg. operand_names arg.1) args.now)) }
-{
-    add_operand(names, callee)?;
-    add_args(names, args)
-}
-
-fn add_count(names: &mut Vec<u32>, count: &Option<(u8, Operand)>) -> Result<(), NoMemory>
-    ensures { OnOk result (names.new.items ≡ names.old.items ++ count_names count.now) }
-{
-    match count {
-        Some(count) => add_operand(names, &count.1),
-        None => Ok(()),
-    }
-}
-
-fn add_value(names: &mut Vec<u32>, value: &Option<(Ty, Operand)>) -> Result<(), NoMemory>
-    ensures { OnOk result (names.new.items ≡ names.old.items ++ value_names value.now) }
-{
-    match value {
-        Some(value) => add_operand(names, &value.1),
-        None => Ok(()),
-    }
-}
-
-fn add_op(names: &mut Vec<u32>, op: &Op) -> Result<(), NoMemory>
-    ensures { OnOk result (names.new.items ≡ names.old.items ++ op_names op.now) }
-{
-    match op {
-        Op::Binary(_, _, left, right) => add_two(names, left, right),
-        Op::Compare(_, _, left, right) => add_two(names, left, right),
-        Op::Cast(_, _, value, _) => add_operand(names, value),
-        Op::Freeze(_, value) => add_operand(names, value),
-        Op::Select(condition, _, chosen, other) => add_choice(names, condition, chosen, other),
-        Op::Phi(_, pairs) => add_pairs(names, pairs.as_slice()),
-        Op::Alloca(_, count, _) => add_count(names, count),
-        Op::Load(_, _, address) => add_operand(names, address),
-        Op::Store(_, _, value, address) => add_two(names, value, address),
-        Op::Gep(_, address, indices) => add_path(names, address, indices.as_slice()),
-        Op::Call(_, callee, args) => add_call(names, callee, args.as_slice()),
-        Op::CondBr(condition, _, _) => add_operand(names, condition),
-        Op::Switch(_, value, _, _) => add_operand(names, value),
-        Op::Ret(value) => add_value(names, value),
-        Op::Br(_) | Op::Unreachable => Ok(()),
-    }
 }
 
 fn add_block(names: &mut Vec<u32>, instrs: &[Instr]) -> Result<(), NoMemory>
     ensures { OnOk result (names.new.items ≡ names.old.items ++ flat_map (λ (i : Instr). op_names i.op) instrs.now) }
 {
     for instr in instrs {
-        add_op(names, &instr.op)?;
+        add_operands(names, Operands::of(&instr.op))?;
     }
     Ok(())
 }

@@ -1,6 +1,0 @@
-use Rattle.std.proofs.Common.{drop, ◌≡◌}
-use Rattle.no_verify_structure.specs.Same.{same_indices}
-use Rattle.no_verify_structure.proofs.same.same_indices.Given as goal
-
-abbrev pub invariant-loop-index : goal.invariant-loop-index
-invariant-loop-index l = same_indices (drop l.index-index l.a) l.rest ≡ same_indices l.a l.b
