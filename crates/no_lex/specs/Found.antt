@@ -30,6 +30,7 @@ abbrev pub sized : TokenKind → Option ℕ → Option (TokenKind × ℕ)
 sized kind None = None
 sized kind (Some n) = Some (kind, n + 1)
 
+-- the length of the name that stands here, without quotes and of at least one character
 abbrev pub some_name : List ℕ → Option ℕ
 some_name bytes = if prefix_len is_name_byte bytes == 0 then None else Some (prefix_len is_name_byte bytes)
 
@@ -37,7 +38,7 @@ some_name bytes = if prefix_len is_name_byte bytes == 0 then None else Some (pre
 abbrev pub word_at : List ℕ → ℕ → TokenKind × ℕ
 word_at bytes n = (name_kind (take (n + 1) bytes), n + 1)
 
--- the longest token at the front by itself, and how many bytes it has
+-- the longest token that begins with this byte, by what the byte may begin, and how many bytes it has
 abbrev pub found_behind : First → ℕ → List ℕ → Option (TokenKind × ℕ)
 found_behind Name b bytes = Some (word_at (b ∷ bytes) (prefix_len is_name_byte bytes))
 found_behind (Sigil kind) b bytes = sized kind (name_or_string bytes)
@@ -47,6 +48,7 @@ found_behind Quote b bytes = sized Quoted (quote_len bytes)
 found_behind OneSign b bytes = Some (Sign, 1)
 found_behind Nothing b bytes = None
 
+-- the longest token at the front, with its kind and how many bytes it has, or none where none begins
 abbrev pub found : List ℕ → Option (TokenKind × ℕ)
 found [] = None
 found (b ∷ bytes) = found_behind (first_of b) b bytes

@@ -8,4 +8,5 @@ mod token;
 
 pub use fault::{LexError, LexFault, LexKind};
 pub use lexer::tokens;
+pub use spelling::{is_digits, is_integer};
 pub use token::{Token, TokenKind};

@@ -60,7 +60,7 @@ fn is_blank(byte: u8) -> bool
 }
 
 /// Whether all of some bytes, at least one, are digits.
-fn is_digits(bytes: &[u8]) -> bool
+pub fn is_digits(bytes: &[u8]) -> bool
     ensures { result ≡ is_digits bytes.now }
 {
     match bytes {
@@ -81,8 +81,8 @@ fn is_digit(byte: u8) -> bool
     byte >= b'0' && byte <= b'9'
 }
 
-/// Whether name characters spell an integer.
-fn is_integer(bytes: &[u8]) -> bool
+/// Whether bytes spell an integer: digits, maybe behind a minus sign.
+pub fn is_integer(bytes: &[u8]) -> bool
     ensures { result ≡ is_integer bytes.now }
 {
     match bytes {

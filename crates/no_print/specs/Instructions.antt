@@ -15,10 +15,12 @@ use Rattle.no_print.specs.Constants.{Spelled, type_at, const_pieces}
 
 -- ---- words
 
+-- the word `volatile`, where an access is one
 abbrev pub volatile_word : Bool → List Piece
 volatile_word false = []
 volatile_word true = word spaced (codes "volatile")
 
+-- an alignment behind a comma, where one is stated
 abbrev pub alignment_pieces : Option ℕ → List Piece
 alignment_pieces None = []
 alignment_pieces (Some n) = comma ++ (word spaced (codes "align") ++ integer spaced (decimal n))
@@ -49,25 +51,31 @@ module _ (s : Spelled) (f : Locals) where
   abbrev pub sized : ℕ → Operand → List Piece
   sized w o = int_type spaced w ++ operand_pieces (ty.Int w) o
 
+  -- the pointer type, and an operand at it
   abbrev pub pointer : Operand → List Piece
   pointer o = word spaced (codes "ptr") ++ operand_pieces ty.Ptr o
 
+  -- a label that is used, behind its word
   abbrev pub label : ℕ → List Piece
   label l = word spaced (codes "label") ++ local_name spaced (name_at f.labels l)
 
   -- ---- parts of forms
 
+  -- a pair of a phi: a value and a label, in square brackets
   abbrev pub pair_pieces : Ty → List ℕ → Operand × ℕ → List Piece
   pair_pieces t gap p =
       sign gap (codes "[") ++ (operand_pieces t p.0 ++ (comma ++ (local_name spaced (name_at f.labels p.1) ++ sign spaced (codes "]"))))
 
+  -- the count of an alloca behind a comma, where it has one
   abbrev pub count_pieces : Option (ℕ × Operand) → List Piece
   count_pieces None = []
   count_pieces (Some n) = comma ++ sized n.0 n.1
 
+  -- an argument of a call, with its type
   abbrev pub argument_pieces : List ℕ → Ty × Operand → List Piece
   argument_pieces gap a = typed gap a.0 a.1
 
+  -- the cases of a switch: numbers with their type, each with its label
   abbrev pub case_pieces : ℕ → List (ℕ × ℕ) → List Piece
   case_pieces w [] = []
   case_pieces w (c ∷ cases) = int_type spaced w ++ (number w spaced c.0 ++ (comma ++ (label c.1 ++ case_pieces w cases)))
@@ -98,9 +106,11 @@ module _ (s : Spelled) (f : Locals) where
 
   -- ---- whole instructions
 
+  -- an operation on its line, behind the register of its result, where it has one
   abbrev pub with_result : Option ℕ → Op → List Piece
   with_result None o = op_pieces indented o
   with_result (Some r) o = local_name indented (name_at f.registers r) ++ (sign spaced (codes "=") ++ op_pieces spaced o)
 
+  -- an instruction on its line
   abbrev pub instr_pieces : Instr → List Piece
   instr_pieces i = with_result i.result i.op ++ inserted_pieces i.inserted

@@ -1,6 +1,7 @@
 -- How names, strings and numbers are spelled (LLVM Language Reference, "Identifiers").
-use Rattle.std.specs.Prelude.{ℕ, ◌+◌, ◌*◌, ◌^◌, Bool, not, ◌&&◌, List, [], ◌∷◌, ◌++◌, ◌==◌, ◌/◌, ◌%◌, nat_le, nat_lt, slice_get, unwrap_or, decimal, codes, bytes_eq, ℤ, pos, negsuc, ◌-ℤ◌, if◌then◌else◌}
+use Rattle.std.specs.Prelude.{ℕ, ◌+◌, ◌^◌, Bool, not, ◌&&◌, List, [], ◌∷◌, ◌++◌, ◌==◌, ◌/◌, ◌%◌, nat_le, nat_lt, slice_get, unwrap_or, decimal, codes, bytes_eq, ℤ, pos, negsuc, if◌then◌else◌}
 use Rattle.std.specs.Fmt.{signed_decimal}
+use Rattle.no_eval.specs.Numbers.{signed}
 use Rattle.no_lex.specs.Spelling.{is_name}
 use Rattle.no_lex.specs.declared.token.TokenKind.TheVariants as kind
 use Rattle.no_print.specs.Pieces.{Piece, piece, word, integer}
@@ -19,6 +20,7 @@ is_plain b = nat_le 32 b && (nat_le b 126 && (not (b == 34) && not (b == 92)))
 abbrev pub escaped_byte : ℕ → List ℕ
 escaped_byte b = if is_plain b then b ∷ [] else 92 ∷ hex_digit (b / 16) ∷ hex_digit (b % 16) ∷ []
 
+-- bytes in a string, each as itself or by its digits
 abbrev pub escaped : List ℕ → List ℕ
 escaped [] = []
 escaped (b ∷ bytes) = escaped_byte b ++ escaped bytes
@@ -27,6 +29,7 @@ escaped (b ∷ bytes) = escaped_byte b ++ escaped bytes
 abbrev pub quoted : List ℕ → List ℕ
 quoted bytes = 34 ∷ (escaped bytes ++ 34 ∷ [])
 
+-- bytes in double quotes, behind these blanks
 abbrev pub string : List ℕ → List ℕ → List Piece
 string gap bytes = piece kind.Quoted gap (quoted bytes)
 
@@ -36,9 +39,11 @@ string gap bytes = piece kind.Quoted gap (quoted bytes)
 abbrev pub spelling : List ℕ → List ℕ
 spelling name = if is_name name then name else quoted name
 
+-- the name of a global or a function behind its sign, behind these blanks
 abbrev pub global_name : List ℕ → List ℕ → List Piece
 global_name gap name = piece kind.Global gap (64 ∷ spelling name)
 
+-- the name of a register, a label or a named type behind its sign, behind these blanks
 abbrev pub local_name : List ℕ → List ℕ → List Piece
 local_name gap name = piece kind.Local gap (37 ∷ spelling name)
 
@@ -46,6 +51,7 @@ local_name gap name = piece kind.Local gap (37 ∷ spelling name)
 abbrev pub label_spelling : List ℕ → List ℕ
 label_spelling name = if bytes_eq name (codes "...") then quoted name else spelling name
 
+-- a label at the beginning of its block, behind these blanks
 abbrev pub label_line : List ℕ → List ℕ → List Piece
 label_line gap name = piece kind.Label gap (label_spelling name ++ 58 ∷ [])
 
@@ -55,10 +61,7 @@ name_at names n = unwrap_or (slice_get names n) []
 
 -- ---- numbers
 
--- a number of so many bits, with its sign
-abbrev pub signed : ℕ → ℕ → ℤ
-signed w n = if nat_lt (2 * n) (2 ^ w) then pos n else pos n -ℤ pos (2 ^ w)
-
+-- a number of one bit as `true` or `false`, behind these blanks
 abbrev pub truth : List ℕ → ℕ → List Piece
 truth gap n = word gap (if n == 0 then codes "false" else codes "true")
 

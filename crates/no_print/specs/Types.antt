@@ -15,14 +15,17 @@ in_braces gap (p ∷ pieces) = sign gap (codes "{") ++ ((p ∷ pieces) ++ sign s
 abbrev pub fields_with : List (List ℕ → List Piece) → List Piece
 fields_with = with_commas (λ gap field. field gap) spaced
 
+-- a struct of these fields: in braces, and where it is packed in angle brackets around them
 abbrev pub struct_pieces : Bool → List ℕ → List Piece → List Piece
 struct_pieces false gap fields = in_braces gap fields
 struct_pieces true gap fields = sign gap (codes "<") ++ (in_braces glued fields ++ sign glued (codes ">"))
 
+-- an array: its count, and the type of its elements
 abbrev pub array_pieces : List ℕ → ℕ → (List ℕ → List Piece) → List Piece
 array_pieces gap count element =
     sign gap (codes "[") ++ (integer glued (decimal count) ++ (word spaced (codes "x") ++ (element spaced ++ sign glued (codes "]"))))
 
+-- one form of a type, where the types inside it are spelled
 abbrev pub type_step : List (List ℕ) → Ty-F (List ℕ → List Piece) → List ℕ → List Piece
 type_step names Ty-F.Void gap = word gap (codes "void")
 type_step names (Ty-F.Int w) gap = int_type gap w

@@ -1,4 +1,4 @@
-//! The one spelling of a module (docs/LANGUAGE.md, "Canonical text").
+//! The one spelling of a module (docs/LANGUAGE.md, "Canonical text"), and that of a name by itself.
 #![tactic(auto)]
 
 mod constants;
@@ -14,4 +14,5 @@ mod scope;
 mod types;
 mod words;
 
+pub use names::put_spelling;
 pub use printing::print;

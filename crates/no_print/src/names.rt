@@ -79,8 +79,9 @@ fn is_name(name: &[u8]) -> bool
     !name.is_empty()
 }
 
-/// Appends a name without its sign.
-fn put_spelling(out: &mut Vec<u8>, name: &[u8]) -> Result<(), NoMemory>
+/// Appends the one spelling of a name, without its sign: bare where it has only name characters and at least one, and otherwise
+/// in quotes, in which a backslash and two upper-case digits stand for a quote, a backslash and what is no printable ASCII.
+pub fn put_spelling(out: &mut Vec<u8>, name: &[u8]) -> Result<(), NoMemory>
     ensures { OnOk result (out.new.items ≡ out.old.items ++ spelling name.now) }
 {
     if is_name(name) {

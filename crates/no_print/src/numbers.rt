@@ -1,7 +1,8 @@
 ghost use Rattle.std.specs.Prelude.{◌≡◌, OnOk};
 ghost use Rattle.std.specs.Fmt.{signed_decimal};
 ghost use Rattle.no_print.specs.Constants.{index_pieces, index_width};
-ghost use Rattle.no_print.specs.Names.{number, signed as signed_of};
+ghost use Rattle.no_eval.specs.Numbers.{signed as signed_of};
+ghost use Rattle.no_print.specs.Names.{number};
 ghost use Rattle.no_print.specs.Pieces.{integer};
 ghost use Rattle.no_print.specs.Wrote.{Wrote};
 

@@ -1,63 +1,35 @@
 -- What a text reads to, by what its definitions and forms give.
-use Rattle.std.proofs.Common.{◌≡◌, ℕ, Bool, true, false, ◌||◌, List, [], ◌∷◌, ◌++◌, bytes_eq, refl, sym, ap, subst, ◌∙◌, append_assoc, append-nil, Result, Ok, Err, inl, inr}
-use Rattle.std.specs.Cmp.Lexicographic.{same_text}
-use Rattle.std.proofs.lemmas.List.Folds.{list_any-append}
-use Rattle.no_ir.specs.Naming.{is_known, with_name, IsDistinct}
+use Rattle.std.proofs.Common.{◌≡◌, ℕ, Bool, false, List, [], refl, sym, ap, subst, ◌∙◌, Result, Ok, Err, inl, inr}
 use Rattle.no_ir.specs.declared.function.Module.{Module}
 use Rattle.no_ir.specs.declared.function.Role.{Role}
+use Rattle.no_ir.specs.declared.types.Ty.{Ty}
 use Rattle.no_lex.specs.declared.token.Token.{Token}
-use Rattle.no_read_rules.specs.Rules.{Fails}
+use Rattle.no_read_rules.specs.declared.fault.Stopped.{Stopped}
+use Rattle.no_read_rules.specs.Rules.{Fails, after, all_taken}
 use Rattle.no_read_rules.specs.declared.fault.Stop.{Stop}
 use Rattle.no_read_rules.specs.declared.fault.Stop.TheVariants as stop
 use Rattle.no_read_types.specs.Lifted.{Lifts}
 use Rattle.no_read_types.specs.declared.lifted.Lifted.{Lifted}
 use Rattle.no_read_types.proofs.LiftedLaws.{lifts_once}
+use Rattle.no_read_toplevel.specs.declared.tops.Top.{Top}
+use Rattle.no_read_toplevel.specs.Modules.{with_module, forms_read}
+use Rattle.no_read_toplevel.specs.Tops.{tops}
 use Rattle.no_read.specs.Faults.{read_fault}
-use Rattle.no_read.specs.Knowing.{known_of, IsKnown, IsRefused, Knows, Answers, StopsAs}
-use Rattle.no_read.specs.Reading.{name_all, IsModuleBy, read_by, IsModule, IsStopped, Reads}
+use Rattle.no_read.specs.Knowing.{known_of, meaning_of, IsKnown, IsRefused, Knows, Answers, StopsAs}
+use Rattle.no_read.specs.Reading.{typed, with_types, IsModuleBy, read_by, IsModule, IsStopped, Reads}
 use Rattle.no_read.specs.declared.fault.ReadError.{ReadError}
 use Rattle.no_read.specs.declared.fault.ReadError.TheVariants as error
 use Rattle.no_read.specs.declared.fault.ReadFault.{ReadFault}
 use Rattle.no_read.specs.declared.known.Known.{Known}
 
--- ---- names that differ are numbered as they stand
+-- ---- the forms name no types: those of the text stand beside what they give
 
--- no name of the list is among these
-abbrev Apart : List (List ℕ) → List (List ℕ) → Type 0
-Apart front [] = Unit {0}
-Apart front (name ∷ list) = (is_known front name ≡ false) × Apart front list
+typed_later : (text : List ℕ) (types : List (List ℕ × Ty)) (r : Result (List Top × Bool) Stopped) → after r (with_module text types) ≡ after (after r (with_module text [])) (λ m. Ok (with_types types m))
+typed_later text types (Ok x) = refl
+typed_later text types (Err f) = refl
 
-both_false : (a b : Bool) → (a || b) ≡ false → (a ≡ false) × (b ≡ false)
-both_false true b e = absurd cc
-both_false false b e = (refl, e)
-
-other_name : (a b : List ℕ) → bytes_eq a b ≡ false → bytes_eq b a ≡ false
-other_name a b e = by (bytes_eq b a) refl
-  where
-    by : (c : Bool) → bytes_eq b a ≡ c → bytes_eq b a ≡ false
-    by true s = let is : b ≡ a = same_text b a (sym s) in subst (λ n. bytes_eq b n ≡ false) is (subst (λ n. bytes_eq n b ≡ false) (sym is) e)
-    by false s = s
-
-apart_more : (front list : List (List ℕ)) (name : List ℕ) → Apart front list → is_known list name ≡ false → Apart (front ++ name ∷ []) list
-apart_more front [] name apart new = tt
-apart_more front (other ∷ list) name apart new =
-    let parts = both_false (bytes_eq name other) (is_known list name) new in
-    (rw (list_any-append (bytes_eq other) front (name ∷ []), apart.0, other_name name other parts.0) refl, apart_more front list name apart.1 parts.1)
-
-apart_none : (list : List (List ℕ)) → Apart [] list
-apart_none [] = tt
-apart_none (name ∷ list) = (refl, apart_none list)
-
-all_named : (front list : List (List ℕ)) → Apart front list → IsDistinct list → name_all front list ≡ front ++ list
-all_named front [] apart distinct = sym (append-nil front)
-all_named front (name ∷ list) apart distinct =
-    let added : with_name front name ≡ front ++ name ∷ [] = rw (apart.0) refl in
-    ap (λ names. name_all names list) added
-    ∙ all_named (front ++ name ∷ []) list (apart_more front list name apart.1 distinct.0) distinct.1
-    ∙ append_assoc front (name ∷ []) list
-
-pub named_again : (list : List (List ℕ)) → IsDistinct list → name_all [] list ≡ list
-named_again list distinct = all_named [] list (apart_none list) distinct
+pub read_untyped : (text : List ℕ) (role : Role) (k : Known) → read_by text role k ≡ after (forms_read (meaning_of text k) role [] k.rest) (λ m. Ok (with_types (typed k) m))
+read_untyped text role k = typed_later text (typed k) (after ((tops (meaning_of text k) role).read false k.rest) all_taken)
 
 -- ---- what was read
 

@@ -26,10 +26,12 @@ abbrev pub syntax_at : List ℕ → ℕ → Option Token → ReadFault
 syntax_at text place None = fault.Syntax place
 syntax_at text place (Some token) = if is_left_out text token then fault.LeftOut place (spelled text token) else fault.Syntax place
 
+-- a token that the profile leaves out, with its spelling
 abbrev pub left_out_at : List ℕ → ℕ → Option Token → ReadFault
 left_out_at text place None = fault.LeftOut place []
 left_out_at text place (Some token) = fault.LeftOut place (spelled text token)
 
+-- the fault of a flaw at a place
 abbrev pub flaw_at : List ℕ → List Token → Flaw → ℕ → ReadFault
 flaw_at text tokens flaw.Syntax place = syntax_at text place (token_at place tokens)
 flaw_at text tokens flaw.LeftOut place = left_out_at text place (token_at place tokens)
@@ -41,5 +43,6 @@ abbrev pub placed : List ℕ → List Token → Flaw → Option ℕ → ReadFaul
 placed text tokens flaw None = fault.Syntax (length text)
 placed text tokens flaw (Some place) = flaw_at text tokens flaw place
 
+-- the fault of a text at which reading stopped
 abbrev pub read_fault : List ℕ → List Token → Stopped → ReadFault
 read_fault text tokens stopped = placed text tokens stopped.flaw stopped.at

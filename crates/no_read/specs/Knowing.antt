@@ -36,6 +36,7 @@ pub record IsRefused (text : List ℕ) (tokens : List Token) (f : ReadFault) : T
   pub lifts : Lifts text tokens (Err stopped)
   pub is : f ≡ read_fault text tokens stopped
 
+-- what a text's names mean, or the fault of its type definitions
 abbrev pub Knows : List ℕ → List Token → Result Known ReadFault → Type 0
 Knows text tokens (Ok k) = IsKnown text tokens k
 Knows text tokens (Err f) = IsRefused text tokens f

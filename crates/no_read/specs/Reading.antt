@@ -1,7 +1,6 @@
 -- What a text reads to: the module that its type definitions and forms mean, or its first fault.
-use Rattle.std.specs.Prelude.{◌≡◌, ℕ, List, [], ◌∷◌, ◌⊎◌, Result, Ok, Err}
+use Rattle.std.specs.Prelude.{◌≡◌, ℕ, List, ◌⊎◌, Result, Ok, Err}
 use Rattle.std.specs.List.{zip}
-use Rattle.no_ir.specs.Naming.{with_name}
 use Rattle.no_ir.specs.declared.types.Ty.{Ty}
 use Rattle.no_ir.specs.declared.function.Module.{Module}
 use Rattle.no_ir.specs.declared.function.Role.{Role}
@@ -19,10 +18,9 @@ use Rattle.no_read.specs.declared.known.Known.{Known}
 abbrev pub typed : Known → List (List ℕ × Ty)
 typed k = zip k.named k.types
 
--- names once all of these have appeared
-abbrev pub name_all : List (List ℕ) → List (List ℕ) → List (List ℕ)
-name_all names [] = names
-name_all names (name ∷ list) = name_all (with_name names name) list
+-- a module with these named types
+abbrev pub with_types : List (List ℕ × Ty) → Module → Module
+with_types types m = record m { types = types }
 
 -- the forms mean a module, beside what names mean
 abbrev pub IsModuleBy : List ℕ → Role → Known → Module → Type 0

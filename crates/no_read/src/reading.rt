@@ -12,19 +12,21 @@ ghost use Rattle.no_read.specs.Reading.{IsModule, Reads, read_by};
 use crate::known::{names_in, stop_error};
 use crate::typed::with_types;
 use crate::{Known, ReadError};
-use no_ir::{Module, Role};
+use no_ir::{List, Module, Role};
 use no_lex::Token;
 use no_read_rules::Stop;
 use no_read_toplevel::{a_module, modules_are_exact};
 use std::alloc::Global;
 
 /// The module of the forms, where it is known what names mean.
+#[tactic(auto, using(crate::proofs::ReadingLaws::read_untyped))]
 fn forms(alloc: Global, text: &[u8], known: Known, role: Role) -> Result<Module, Stop>
     ensures { Gives (λ m. m) result (read_by text.now role known) }
 {
-    let (known, types) = with_types(alloc, known)?;
     let scope = known.scope(text);
-    a_module(alloc, &scope, role, types, known.rest.as_slice())
+    let module = a_module(alloc, &scope, role, List::new(alloc), known.rest.as_slice())?;
+    let module = with_types(alloc, known, module)?;
+    Ok(module)
 }
 
 fn read(alloc: Global, text: &[u8], tokens: &[Token], role: Role) -> Result<Module, ReadError>

@@ -1,10 +1,9 @@
-ghost use Rattle.std.specs.Prelude.{◌≡◌, [], IfOk};
+ghost use Rattle.std.specs.Prelude.{◌≡◌, IfOk};
 ghost use Rattle.std.specs.List.{zip};
-ghost use Rattle.no_ir.specs.Naming.{IsDistinct};
-ghost use Rattle.no_read.specs.Reading.{name_all, typed};
+ghost use Rattle.no_read.specs.Reading.{typed, with_types};
 
 use crate::Known;
-use no_ir::{Bytes, List, Names, NoMemory, Ty};
+use no_ir::{Bytes, List, Module, NoMemory, Ty};
 use std::alloc::Global;
 
 /// Each name beside its type.
@@ -24,47 +23,23 @@ fn paired(alloc: Global, names: &[Bytes], types: &[Ty]) -> Result<List<(Bytes, T
     Ok(all)
 }
 
-/// Names that are numbered in the order of a list.
-fn names_of(alloc: Global, list: &[Bytes]) -> Result<Names, NoMemory>
-    ensures { IfOk result (λ names. names ≡ name_all [] list.now) }
+/// A module with the named types of its text.
+pub(crate) fn with_types(alloc: Global, known: Known, module: Module) -> Result<Module, NoMemory>
+    ensures { IfOk result (λ m. m ≡ with_types (typed known) «module») }
 {
-    let mut names = Names::new(alloc)?;
-    for name in list {
-        if names.len() >= u32::MAX as usize {
-            return Err(NoMemory);
-        }
-        names.number(name.as_slice())?;
-    }
-    Ok(names)
-}
-
-/// Names and their types beside them, once more.
-#[tactic(auto, using(crate::proofs::ReadingLaws::named_again))]
-pub(crate) fn with_types(
-    alloc: Global,
-    known: Known,
-) -> Result<(Known, List<(Bytes, Ty)>), NoMemory>
-    ensures same { IfOk result (λ x. x.0 ≡ known) }
-    ensures typed { IfOk result (λ x. x.1 ≡ typed known) }
-{
-    let Known {
-        named,
+    let Known { named, types, .. } = known;
+    let names = named.into_list()?;
+    let types = paired(alloc, names.as_slice(), types.as_slice())?;
+    let Module {
+        layout,
+        globals,
+        functions,
+        ..
+    } = module;
+    Ok(Module {
+        layout,
         types,
         globals,
         functions,
-        rest,
-    } = known;
-    let list = named.into_list()?;
-    let pairs = paired(alloc, list.as_slice(), types.as_slice())?;
-    let named = names_of(alloc, list.as_slice())?;
-    Ok((
-        Known {
-            named,
-            types,
-            globals,
-            functions,
-            rest,
-        },
-        pairs,
-    ))
+    })
 }

@@ -30,6 +30,7 @@ is_alignment n =
     n == 1 || n == 2 || n == 4 || n == 8 || n == 16 || n == 32 || n == 64 || n == 128 || n == 256 || n == 512 || n == 1024
     || n == 2048 || n == 4096 || n == 8192 || n == 16384 || n == 32768 || n == 65536
 
+-- a power of two up to 65,536, or else a fault of number
 abbrev pub aligned : Option ℕ → Result ℕ Flaw
 aligned None = Err Number
 aligned (Some n) = if is_alignment n then Ok n else Err Number
@@ -40,6 +41,7 @@ alignment_of text token = if is_kind Integer token then aligned (decimal 65536 (
 
 -- ---- one attribute
 
+-- whether an attribute begins with a token of this kind and spelling
 abbrev pub begins_by : TokenKind → List ℕ → Bool
 begins_by Word spelling = is_attribute_word spelling
 begins_by Quoted spelling = true
@@ -50,12 +52,14 @@ begins_by _ spelling = false
 abbrev pub begins_attribute : List ℕ → Token → Bool
 begins_attribute text token = begins_by token.kind (spelled text token)
 
+-- what a token of this kind and spelling begins
 abbrev pub head_by : TokenKind → List ℕ → Token → Result AttributeHead Flaw
 head_by Word spelling token = if is_attribute_word spelling then Ok (if bytes_eq spelling (codes "align") then head.Align else head.Word) else Err Syntax
 head_by Quoted spelling token = Ok (head.Text token)
 head_by Group spelling token = if is_record spelling then Err Syntax else Ok (head.Group token)
 head_by _ spelling token = Err Syntax
 
+-- what the first token of an attribute begins
 abbrev pub attribute_head : List ℕ → Token → Result AttributeHead Flaw
 attribute_head text token = head_by token.kind (spelled text token) token
 
@@ -70,6 +74,7 @@ goes_on text _ token = false
 unfoldable pub align_tail : List ℕ → Rule (Unit {0}) (Unit {0})
 align_tail text = if_next (is_kind Integer) (plain (alignment_of text) >>= λ _. done tt) (bracketed text (codes "(") (codes ")"))
 
+-- a string, as its token
 abbrev pub string_of : List ℕ → Token → Result Token Flaw
 string_of text token = if is_kind Quoted token then Ok token else Err Syntax
 
@@ -80,6 +85,7 @@ value_tail text = do
   value ← plain (string_of text)
   done value
 
+-- what follows the first token of an attribute
 abbrev pub after_head : List ℕ → AttributeHead → Rule (Unit {0}) Attribute
 after_head text head.Word = if_next (goes_on text attribute.Word) (bracketed text (codes "(") (codes ")") >>= λ _. done attribute.Closed) (done attribute.Word)
 after_head text head.Align = if_next (goes_on text attribute.Align) (align_tail text >>= λ _. done attribute.Closed) (done attribute.Align)
@@ -92,9 +98,11 @@ an_attribute text = plain (attribute_head text) >>= after_head text
 
 -- ---- all attributes at a place
 
+-- one more attribute, where one begins
 abbrev pub more_attribute : List ℕ → Rule (Unit {0}) (Option Attribute)
 more_attribute text = more_where (begins_attribute text) (an_attribute text)
 
+-- the attributes at a place, as many as there are
 abbrev pub all_attributes : List ℕ → Rule (Unit {0}) (List Attribute)
 all_attributes text = repeat (more_attribute text)
 
@@ -120,6 +128,7 @@ skip_attributes text = all_attributes text >>= λ _. done tt
 abbrev pub says : List ℕ → Token → List ℕ → Bool
 says text token bytes = bytes_eq (unescaped (inner (spelled text token))) bytes
 
+-- the device address that an attribute sets, where it is a number
 abbrev pub at_address : Option ℕ → Option Mark
 at_address (Some n) = Some (mark.Address n)
 at_address None = None
@@ -129,29 +138,34 @@ abbrev pub address_of : List ℕ → Option ℕ
 address_of [] = None
 address_of (b ∷ bytes) = decimal 4294967295 (b ∷ bytes)
 
+-- the device address that an attribute sets, in a server's part alone
 abbrev pub address_mark : Role → List ℕ → Option Mark
 address_mark Source value = None
 address_mark Part value = at_address (address_of value)
 
--- what a string alone sets, and one with a value
+-- what a string alone sets
 abbrev pub text_mark : List ℕ → Token → Option Mark
 text_mark text key = if says text key (codes "machine-bound") then Some mark.Bound else None
 
+-- what a string with a value sets
 abbrev pub pair_mark : List ℕ → Role → Token → Token → Option Mark
 pair_mark text role key value =
     if says text key (codes "machine-bound") then Some mark.Bound
     else (if says text key (codes "no.addr") then address_mark role (unescaped (inner (spelled text value))) else None)
 
+-- what an attribute sets
 abbrev pub mark_of : List ℕ → Role → Attribute → Option Mark
 mark_of text role (attribute.Text key) = text_mark text key
 mark_of text role (attribute.Pair key value) = pair_mark text role key value
 mark_of text role (attribute.Group group) = Some (mark.Group group)
 mark_of text role _ = None
 
+-- one or none, as a list
 abbrev pub listed : Option Mark → List Mark
 listed None = []
 listed (Some m) = m ∷ []
 
+-- what attributes set, in order
 abbrev pub all_marks : List ℕ → Role → List Attribute → List Mark
 all_marks text role [] = []
 all_marks text role (a ∷ others) = listed (mark_of text role a) ++ all_marks text role others

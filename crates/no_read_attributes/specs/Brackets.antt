@@ -6,6 +6,7 @@ use Rattle.no_read_rules.specs.declared.fault.Stopped.{Stopped}
 use Rattle.no_read_rules.specs.Rules.{Rule, fault, ◌>>=◌}
 use Rattle.no_read_rules.specs.Spelled.{is_sign, a_sign}
 
+-- whether no token is left
 abbrev pub is_last : List Token → Bool
 is_last [] = true
 is_last (token ∷ tokens) = false
@@ -26,6 +27,7 @@ behind_close text opener closer n (token ∷ tokens) =
     else (if is_sign text closer token then (if n == 0 then Ok tokens else behind_close text opener closer (n - 1) tokens)
     else behind_close text opener closer n tokens)
 
+-- the tokens that are left, with no value and the same state
 abbrev pub gone : {S : Type 0} → S → Result (List Token) Stopped → Result (Unit {0} × S × List Token) Stopped
 gone s (Ok rest) = Ok (tt, s, rest)
 gone s (Err stopped) = Err stopped
@@ -37,5 +39,6 @@ to_close text opener closer = record {
   read = λ s tokens. gone s (behind_close text opener closer 0 tokens);
 }
 
+-- an opening bracket, and whatever stands up to the bracket that closes it
 unfoldable pub bracketed : {S : Type 0} → List ℕ → List ℕ → List ℕ → Rule S (Unit {0})
 bracketed text opener closer = a_sign text opener >>= λ _. to_close text opener closer

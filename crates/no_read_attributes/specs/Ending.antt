@@ -10,7 +10,7 @@ pub record Ends {S A : Type 0} (goes_on : A → Token → Bool) (p : Rule S A) :
   pub stops : (s : S) (tokens : List Token) (x : A × S × List Token) → p.read s tokens ≡ Ok x → Avoids (goes_on x.0) x.2
   pub only : (s t : S) (used rest : List Token) (a : A) → p.means s used a t → Avoids (goes_on a) rest → p.read s (used ++ rest) ≡ Ok (a, t, rest)
 
--- a rule and what follows it, with which it can't go on
+-- the tokens part in two: a rule means the front and can't go on with the back, which the rule behind it means
 pub record IsAhead {S A B : Type 0} (goes_on : A → Token → Bool) (p : Rule S A) (q : A → Rule S B) (s : S) (tokens : List Token) (b : B) (t : S) : Type 0 where
   pub front : List Token
   pub back : List Token
@@ -21,6 +21,7 @@ pub record IsAhead {S A B : Type 0} (goes_on : A → Token → Bool) (p : Rule S
   pub apart : Avoids (goes_on first) back
   pub in_back : (q first).means between back b t
 
+-- a rule and what follows it, with which it can't go on
 abbrev pub ahead : {S A B : Type 0} → (A → Token → Bool) → Rule S A → (A → Rule S B) → Rule S B
 ahead goes_on p q = record { means = IsAhead goes_on p q; read = λ s tokens. after (p.read s tokens) (λ x. (q x.0).read x.1 x.2) }
 

@@ -12,4 +12,4 @@ pub use attribute::{
 };
 pub use marks::{Mark, attribute_marks};
 pub use symbols::symbol_name;
-pub use words::{is_attribute_word, is_left_out, is_node, is_record};
+pub use words::{is_attribute_word, is_left_out, is_node, is_one, is_record};

@@ -1,35 +1,14 @@
-ghost use Rattle.std.specs.Prelude.{◌≡◌, bytes_eq};
-ghost use Rattle.std.specs.List.{list_all};
-ghost use Rattle.no_read_attributes.specs.Words.{is_digit, is_digits, is_int_word, is_one, listed_ints, is_type_word, constant_words, number_words, other_words, top_words, left_out_types, left_out_floats, left_out_parts, left_out_flow, left_out_rest, is_left_out_name, is_left_out_word, is_record, is_node, left_out_by, is_left_out, is_attribute_word};
+ghost use Rattle.std.specs.Prelude.{◌≡◌, bytes_eq, map};
+ghost use Rattle.no_read_attributes.specs.Words.{is_int_word, is_one, listed_ints, is_type_word, constant_words, is_number_word, instruction_words, top_words, left_out_words, is_left_out_word, is_record, is_node, left_out_by, is_left_out, is_attribute_word};
 
-use no_lex::{Token, TokenKind};
+use no_lex::{Token, TokenKind, is_digits};
 use no_read_rules::spelled;
+use no_words::{binary_named, cast_named};
 
 fn same(word: &[u8], other: &[u8]) -> bool
     ensures { result ≡ bytes_eq word.now other.now }
 {
     word == other
-}
-
-fn is_digit(byte: u8) -> bool
-    ensures { result ≡ is_digit byte }
-{
-    byte >= b'0' && byte <= b'9'
-}
-
-fn all_digits(bytes: &[u8]) -> bool
-    ensures { result ≡ list_all is_digit bytes.now }
-{
-    bytes.iter().all(|byte| is_digit(*byte))
-}
-
-fn is_digits(bytes: &[u8]) -> bool
-    ensures { result ≡ is_digits bytes.now }
-{
-    match bytes {
-        [] => false,
-        _ => all_digits(bytes),
-    }
 }
 
 /// Whether a word is an `i` with digits.
@@ -42,156 +21,150 @@ fn is_int_word(word: &[u8]) -> bool
     }
 }
 
+/// The widths of integers that the profile has.
+const LISTED_INTS: [&[u8]; 5] = [b"i1", b"i8", b"i16", b"i32", b"i64"];
+
+/// Constants by a word (LLVM Language Reference, "Constants").
+const CONSTANT_WORDS: [&[u8]; 6] = [
+    b"true",
+    b"false",
+    b"null",
+    b"undef",
+    b"poison",
+    b"zeroinitializer",
+];
+
+/// Instructions that begin no constant expression ("Instruction Reference").
+const INSTRUCTION_WORDS: [&[u8]; 15] = [
+    b"freeze",
+    b"select",
+    b"phi",
+    b"alloca",
+    b"load",
+    b"store",
+    b"getelementptr",
+    b"call",
+    b"tail",
+    b"musttail",
+    b"notail",
+    b"br",
+    b"switch",
+    b"ret",
+    b"unreachable",
+];
+
+/// Top forms ("Module Structure").
+const TOP_WORDS: [&[u8]; 5] = [
+    b"source_filename",
+    b"target",
+    b"define",
+    b"declare",
+    b"attributes",
+];
+
+/// Words that the profile leaves out: types; operations on floating-point numbers; access to parts of aggregates and vectors, and
+/// atomic access; exceptions, variable arguments, indirect branches, assembler and address spaces; and what stands at globals,
+/// functions, modules and parameters.
+const LEFT_OUT_WORDS: [&[u8]; 51] = [
+    b"half",
+    b"bfloat",
+    b"float",
+    b"double",
+    b"fp128",
+    b"x86_fp80",
+    b"ppc_fp128",
+    b"token",
+    b"metadata",
+    b"opaque",
+    b"fneg",
+    b"fadd",
+    b"fsub",
+    b"fmul",
+    b"fdiv",
+    b"frem",
+    b"fcmp",
+    b"extractvalue",
+    b"insertvalue",
+    b"extractelement",
+    b"insertelement",
+    b"shufflevector",
+    b"atomicrmw",
+    b"cmpxchg",
+    b"fence",
+    b"atomic",
+    b"invoke",
+    b"callbr",
+    b"resume",
+    b"landingpad",
+    b"catchpad",
+    b"cleanuppad",
+    b"catchswitch",
+    b"va_arg",
+    b"indirectbr",
+    b"asm",
+    b"addrspace",
+    b"addrspacecast",
+    b"thread_local",
+    b"external",
+    b"extern_weak",
+    b"alias",
+    b"ifunc",
+    b"comdat",
+    b"personality",
+    b"module",
+    b"byval",
+    b"inalloca",
+    b"preallocated",
+    b"swifterror",
+    b"nest",
+];
+
+/// Whether a word is one of these.
+pub fn is_one(words: &[&[u8]], word: &[u8]) -> bool
+    ensures { result ≡ is_one (map (λ w. w.now) words.now) word.now }
+{
+    for other in words {
+        if same(word, other) {
+            return true;
+        }
+    }
+    false
+}
+
 fn is_listed_int(word: &[u8]) -> bool
     ensures { result ≡ is_one listed_ints word.now }
 {
-    same(word, b"i1")
-        || same(word, b"i8")
-        || same(word, b"i16")
-        || same(word, b"i32")
-        || same(word, b"i64")
+    is_one(&LISTED_INTS, word)
 }
 
 fn is_constant_word(word: &[u8]) -> bool
     ensures { result ≡ is_one constant_words word.now }
 {
-    same(word, b"true")
-        || same(word, b"false")
-        || same(word, b"null")
-        || same(word, b"undef")
-        || same(word, b"poison")
-        || same(word, b"zeroinitializer")
+    is_one(&CONSTANT_WORDS, word)
 }
 
-fn is_number_word(word: &[u8]) -> bool
-    ensures { result ≡ is_one number_words word.now }
+fn is_instruction_word(word: &[u8]) -> bool
+    ensures { result ≡ is_one instruction_words word.now }
 {
-    same(word, b"add")
-        || same(word, b"sub")
-        || same(word, b"mul")
-        || same(word, b"udiv")
-        || same(word, b"urem")
-        || same(word, b"sdiv")
-        || same(word, b"srem")
-        || same(word, b"shl")
-        || same(word, b"lshr")
-        || same(word, b"ashr")
-        || same(word, b"and")
-        || same(word, b"or")
-        || same(word, b"xor")
-        || same(word, b"icmp")
-        || same(word, b"trunc")
-        || same(word, b"zext")
-        || same(word, b"sext")
-        || same(word, b"ptrtoint")
-        || same(word, b"inttoptr")
-        || same(word, b"bitcast")
-}
-
-fn is_other_word(word: &[u8]) -> bool
-    ensures { result ≡ is_one other_words word.now }
-{
-    same(word, b"freeze")
-        || same(word, b"select")
-        || same(word, b"phi")
-        || same(word, b"alloca")
-        || same(word, b"load")
-        || same(word, b"store")
-        || same(word, b"getelementptr")
-        || same(word, b"call")
-        || same(word, b"tail")
-        || same(word, b"musttail")
-        || same(word, b"notail")
-        || same(word, b"br")
-        || same(word, b"switch")
-        || same(word, b"ret")
-        || same(word, b"unreachable")
+    is_one(&INSTRUCTION_WORDS, word)
 }
 
 fn is_top_word(word: &[u8]) -> bool
     ensures { result ≡ is_one top_words word.now }
 {
-    same(word, b"source_filename")
-        || same(word, b"target")
-        || same(word, b"define")
-        || same(word, b"declare")
-        || same(word, b"attributes")
+    is_one(&TOP_WORDS, word)
 }
 
-fn is_left_out_type(word: &[u8]) -> bool
-    ensures { result ≡ is_one left_out_types word.now }
+fn is_left_out_name(word: &[u8]) -> bool
+    ensures { result ≡ is_one left_out_words word.now }
 {
-    same(word, b"half")
-        || same(word, b"bfloat")
-        || same(word, b"float")
-        || same(word, b"double")
-        || same(word, b"fp128")
-        || same(word, b"x86_fp80")
-        || same(word, b"ppc_fp128")
-        || same(word, b"token")
-        || same(word, b"metadata")
-        || same(word, b"opaque")
+    is_one(&LEFT_OUT_WORDS, word)
 }
 
-fn is_left_out_float(word: &[u8]) -> bool
-    ensures { result ≡ is_one left_out_floats word.now }
+fn is_number_word(word: &[u8]) -> bool
+    ensures { result ≡ is_number_word word.now }
 {
-    same(word, b"fneg")
-        || same(word, b"fadd")
-        || same(word, b"fsub")
-        || same(word, b"fmul")
-        || same(word, b"fdiv")
-        || same(word, b"frem")
-        || same(word, b"fcmp")
-}
-
-fn is_left_out_part(word: &[u8]) -> bool
-    ensures { result ≡ is_one left_out_parts word.now }
-{
-    same(word, b"extractvalue")
-        || same(word, b"insertvalue")
-        || same(word, b"extractelement")
-        || same(word, b"insertelement")
-        || same(word, b"shufflevector")
-        || same(word, b"atomicrmw")
-        || same(word, b"cmpxchg")
-        || same(word, b"fence")
-        || same(word, b"atomic")
-}
-
-fn is_left_out_flow(word: &[u8]) -> bool
-    ensures { result ≡ is_one left_out_flow word.now }
-{
-    same(word, b"invoke")
-        || same(word, b"callbr")
-        || same(word, b"resume")
-        || same(word, b"landingpad")
-        || same(word, b"catchpad")
-        || same(word, b"cleanuppad")
-        || same(word, b"catchswitch")
-        || same(word, b"va_arg")
-        || same(word, b"indirectbr")
-        || same(word, b"asm")
-        || same(word, b"addrspace")
-        || same(word, b"addrspacecast")
-}
-
-fn is_left_out_rest(word: &[u8]) -> bool
-    ensures { result ≡ is_one left_out_rest word.now }
-{
-    same(word, b"thread_local")
-        || same(word, b"external")
-        || same(word, b"extern_weak")
-        || same(word, b"alias")
-        || same(word, b"ifunc")
-        || same(word, b"comdat")
-        || same(word, b"personality")
-        || same(word, b"module")
-        || same(word, b"byval")
-        || same(word, b"inalloca")
-        || same(word, b"preallocated")
-        || same(word, b"swifterror")
-        || same(word, b"nest")
+    binary_named(word).is_some() || cast_named(word).is_some() || same(word, b"icmp")
 }
 
 fn is_type_word(word: &[u8]) -> bool
@@ -200,24 +173,14 @@ fn is_type_word(word: &[u8]) -> bool
     is_int_word(word) || same(word, b"void") || same(word, b"ptr") || same(word, b"label")
 }
 
-fn is_left_out_name(word: &[u8]) -> bool
-    ensures { result ≡ is_left_out_name word.now }
-{
-    is_left_out_type(word)
-        || is_left_out_float(word)
-        || is_left_out_part(word)
-        || is_left_out_flow(word)
-        || is_left_out_rest(word)
-}
-
 fn is_left_out_word(word: &[u8]) -> bool
     ensures { result ≡ is_left_out_word word.now }
 {
     is_left_out_name(word) || is_int_word(word) && !is_listed_int(word)
 }
 
-#[tactic(auto, using(crate::proofs::Fronts::in_front))]
 /// Whether the name of a group is that of a debug record.
+#[tactic(auto, using(crate::proofs::Fronts::in_front))]
 pub fn is_record(spelling: &[u8]) -> bool
     ensures { result ≡ is_record spelling.now }
 {
@@ -255,9 +218,9 @@ pub fn is_attribute_word(word: &[u8]) -> bool
     ensures { result ≡ is_attribute_word word.now }
 {
     !(is_type_word(word)
-        || is_constant_word(word)
         || is_number_word(word)
-        || is_other_word(word)
+        || is_constant_word(word)
+        || is_instruction_word(word)
         || is_top_word(word)
         || is_left_out_name(word))
 }

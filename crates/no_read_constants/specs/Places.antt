@@ -1,5 +1,6 @@
 -- Addresses inside symbols (LLVM Language Reference, "Constant Expressions").
 use Rattle.std.specs.Prelude.{ℕ, ◌*◌, ◌^◌, Bool, ◌&&◌, ◌||◌, List, [], ◌∷◌, ◌==◌, nat_lt, drop, position, bytes_eq, codes, Option, Some, None, Result, Ok, Err, ℤ, pos, ◌-ℤ◌, if◌then◌else◌}
+use Rattle.no_eval.specs.Numbers.{signed}
 use Rattle.no_lex.specs.declared.token.Token.{Token}
 use Rattle.no_lex.specs.declared.token.TokenKind.{TokenKind}
 use Rattle.no_lex.specs.declared.token.TokenKind.TheVariants.{Word, Integer, Global}
@@ -25,10 +26,12 @@ use Rattle.no_read_constants.specs.declared.places.PlaceHead.TheVariants.{Bare, 
 
 -- ---- names of globals and functions
 
+-- a function, or else a name that the module does not define
 abbrev pub or_function : Option ℕ → List ℕ → Symbol
 or_function (Some n) name = symbol.Function n
 or_function None name = symbol.Unknown name
 
+-- a global, or else a function, or else a name that the module does not define
 abbrev pub or_global : Option ℕ → Option ℕ → List ℕ → Symbol
 or_global (Some n) function name = symbol.Global n
 or_global None function name = or_function function name
@@ -37,6 +40,7 @@ or_global None function name = or_function function name
 abbrev pub symbol_named : Meaning → List ℕ → Symbol
 symbol_named m name = or_global (position (bytes_eq name) m.globals) (position (bytes_eq name) m.functions) name
 
+-- the symbol that a token names
 abbrev pub symbol_of : Meaning → Token → Result Symbol Flaw
 symbol_of m token = if is_kind Global token then Ok (symbol_named m (name_of (drop 1 (spelled m.text token)))) else Err Syntax
 
@@ -48,6 +52,7 @@ int_width (Ok (head.Int w)) = Ok w
 int_width (Ok _) = Err Syntax
 int_width (Err flaw) = Err flaw
 
+-- the width of the integer type that a token is
 abbrev pub width_of : List ℕ → Token → Result ℕ Flaw
 width_of text token = if is_kind Word token then int_width (word_type (spelled text token)) else Err Syntax
 
@@ -55,6 +60,7 @@ width_of text token = if is_kind Word token then int_width (word_type (spelled t
 abbrev pub truth_at : ℕ → List ℕ → Result ℕ Flaw
 truth_at w word = if w == 1 && bytes_eq word (codes "true") then Ok 1 else (if w == 1 && bytes_eq word (codes "false") then Ok 0 else Err Syntax)
 
+-- a number of w bits from a token of this kind and spelling: an integer, `true` or `false`
 abbrev pub number_by : ℕ → TokenKind → List ℕ → Result ℕ Flaw
 number_by w Integer spelling = integer_at w spelling
 number_by w Word spelling = truth_at w spelling
@@ -64,21 +70,20 @@ number_by w _ spelling = Err Syntax
 abbrev pub number_at : List ℕ → ℕ → Token → Result ℕ Flaw
 number_at text w token = number_by w token.kind (spelled text token)
 
--- a number below 2^w, with its sign
-abbrev pub with_sign : ℕ → ℕ → ℤ
-with_sign w n = if nat_lt (2 * n) (2 ^ w) then pos n else pos n -ℤ pos (2 ^ w)
-
 -- ---- places
 
+-- a flag of `getelementptr`, which has no effect
 abbrev pub is_flag : List ℕ → Token → Bool
 is_flag text token = is_word text (codes "inbounds") token || is_word text (codes "nusw") token || is_word text (codes "nuw") token
 
+-- an index: its integer type, and a number with its sign
 unfoldable pub an_index : Meaning → Rule (Unit {0}) ℤ
 an_index m = do
   width ← plain (width_of m.text)
   number ← plain (number_at m.text width)
-  done (with_sign width number)
+  done (signed width number)
 
+-- at least one index, and the closing sign
 unfoldable pub indices : Meaning → Rule (Unit {0}) (List ℤ)
 indices m = do
   first ← an_index m
@@ -97,13 +102,16 @@ gep_parts m depth = do
   steps ← indices m
   done (record { symbol = symbol; base = base; indices = steps })
 
+-- a bare name, or else a constant `getelementptr`
 abbrev pub bare_or : Result Symbol Flaw → Bool → Result PlaceHead Flaw
 bare_or (Ok symbol) gep = Ok (Bare symbol)
 bare_or (Err flaw) gep = if gep then Ok Gep else Err Syntax
 
+-- what the first token of a place begins
 abbrev pub place_head : Meaning → Token → Result PlaceHead Flaw
 place_head m token = bare_or (symbol_of m token) (is_word m.text (codes "getelementptr") token)
 
+-- what follows the first token of a place
 abbrev pub after_place_head : Meaning → ℕ → PlaceHead → Rule (Unit {0}) Place
 after_place_head m depth (Bare symbol) = done (record { symbol = symbol; base = ty.Void; indices = [] })
 after_place_head m depth Gep = behind (is_flag m.text) (gep_parts m depth)

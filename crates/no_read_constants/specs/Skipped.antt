@@ -18,5 +18,6 @@ pub record IsBehind {S A : Type 0} (test : Token → Bool) (p : Rule S A) (s : S
   pub stops : next_is test back ≡ false
   pub read : p.means s back a t
 
+-- a rule behind tokens that pass, which are skipped
 abbrev pub behind : {S A : Type 0} → (Token → Bool) → Rule S A → Rule S A
 behind test p = record { means = IsBehind test p; read = λ s tokens. p.read s (skip_while test tokens) }

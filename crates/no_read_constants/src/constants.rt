@@ -12,9 +12,10 @@ ghost use Rattle.no_lex.specs.declared.token.Token.{Token};
 use crate::places::{a_place, begins_place, number_at, truth_at, width_of};
 use no_ir::{Const, List, Ty};
 use no_lex::{Token, TokenKind};
+use no_module::same_type;
 use no_read_rules::{
-    Flaw, Scope, Stop, a_type, closes_list, fault_at, integer_at, is_kind, is_sign, same_type,
-    skip_sign, skip_word, spelled, syntax, unescaped_inner,
+    Flaw, Scope, Stop, a_type, closes_list, fault_at, integer_at, is_kind, is_sign, skip_sign,
+    skip_word, spelled, syntax, unescaped_inner,
 };
 use sqlite_items::at;
 use std::alloc::Global;

@@ -7,9 +7,10 @@ ghost use Rattle.no_read_rules.specs.Rules.{Gives, valued, passed, plain};
 ghost use Rattle.no_read_rules.specs.Scope.{seen};
 ghost use Rattle.no_read_rules.specs.Types.{word_type};
 ghost use Rattle.no_read_rules.specs.Unescaped.{name_of};
-ghost use Rattle.no_read_constants.specs.Places.{symbol_named, symbol_of, int_width, width_of, truth_at, number_by, number_at, with_sign, is_flag, an_index, indices, gep_parts, place_head, after_place_head, a_place, begins_place};
+ghost use Rattle.no_read_constants.specs.Places.{symbol_named, symbol_of, int_width, width_of, truth_at, number_by, number_at, is_flag, an_index, indices, gep_parts, place_head, after_place_head, a_place, begins_place};
 ghost use Rattle.no_read_constants.specs.Skipped.{skip_while};
 
+use no_eval::signed;
 use no_ir::{Bytes, List, NoMemory, Place, Symbol, Ty};
 use no_lex::{Token, TokenKind};
 use no_read_rules::{
@@ -142,26 +143,6 @@ pub fn number_at<'b>(
     }
 }
 
-/// A number below 2 to the power of its width, with its sign.
-fn with_sign(width: u8, number: u64) -> i64
-    requires some { 0 < width }
-    requires fits { width ≤ 64 }
-    requires below { number < 2 ^ width }
-    ensures { result ≡ with_sign width number }
-{
-    let most = if width == 64 {
-        u64::MAX
-    } else {
-        (1u64 << width) - 1
-    };
-    let gap = most - number;
-    if number <= gap {
-        number as i64
-    } else {
-        -(gap as i64) - 1
-    }
-}
-
 /// An index: an integer type, and a number at it.
 #[tactic(auto, unfolding(crate::specs::Places::an_index))]
 fn an_index<'b>(scope: &Scope, tokens: &'b [Token]) -> Result<(i64, &'b [Token]), Stop>
@@ -170,7 +151,7 @@ fn an_index<'b>(scope: &Scope, tokens: &'b [Token]) -> Result<(i64, &'b [Token])
 {
     let (width, rest) = width_of(scope.text, tokens)?;
     let (number, rest) = number_at(scope.text, width, rest)?;
-    Ok((with_sign(width, number), rest))
+    Ok((signed(width, number), rest))
 }
 
 #[tactic(auto, unfolding(no_read_rules::specs::Lists::more_item))]

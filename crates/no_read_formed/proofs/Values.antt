@@ -33,7 +33,7 @@ use Rattle.no_read_rules.specs.Scope.{Meaning}
 use Rattle.no_read_rules.specs.Spelled.{spelled, is_kind, is_word, is_sign, a_word, a_sign}
 use Rattle.no_read_rules.specs.Types.{a_type, must_be, word_type}
 use Rattle.no_read_rules.specs.Unescaped.{name_of, unescaped, inner}
-use Rattle.no_read_constants.specs.Places.{or_function, or_global, symbol_named, symbol_of, int_width, width_of, truth_at, number_by, number_at, with_sign, is_flag, an_index, indices, gep_parts, bare_or, place_head, after_place_head, a_place, begins_place}
+use Rattle.no_read_constants.specs.Places.{or_function, or_global, symbol_named, symbol_of, int_width, width_of, truth_at, number_by, number_at, is_flag, an_index, indices, gep_parts, bare_or, place_head, after_place_head, a_place, begins_place}
 use Rattle.no_read_constants.specs.Skipped.{behind}
 use Rattle.no_read_constants.specs.Constants.{named_in, resolved, shape_in, shape_of, element_in, fields_in, zero_at, null_at, as_int, word_at, word_const, integer_in, leaf_by, leaf_head, bracket_at, as_leaf, const_by, const_head, text_of, ptr_to_int, int_to_ptr, after_leaf, address, member, past, next_field, end_or, more_fields, some_fields, no_fields, fields, array_const, struct_const, packed_const, after_head, flat_const, bracket_const, a_const}
 use Rattle.no_read_constants.specs.declared.places.PlaceHead.{PlaceHead}

@@ -10,6 +10,7 @@ use Rattle.no_ir.specs.declared.instruction.BinOp.{BinOp}
 use Rattle.no_ir.specs.declared.instruction.BinOp.TheVariants as bin
 use Rattle.no_ir.specs.declared.instruction.CastOp.{CastOp}
 use Rattle.no_ir.specs.declared.instruction.CastOp.TheVariants as cast
+use Rattle.no_words.specs.Words.{binary_named, cast_named}
 use Rattle.no_read_rules.specs.declared.fault.Flaw.{Flaw}
 use Rattle.no_read_rules.specs.declared.fault.Flaw.TheVariants.{Syntax}
 use Rattle.no_read_rules.specs.Rules.{keeping, next_is, IsSolid}
@@ -21,7 +22,7 @@ use Rattle.no_read_attributes.specs.Words.{is_attribute_word}
 use Rattle.no_read_functions.proofs.HeadLaws.{sign_ends, sign_other}
 use Rattle.no_read_registers.specs.declared.locals.Locals.{Locals}
 use Rattle.no_read_registers.proofs.LocalLaws.{definition_solid}
-use Rattle.no_read_instructions.specs.Heads.{binary_word, cast_word, other_word, or_cast, giver_word, or_binary, action_word, call_word, or_action, or_giver, head_word, instr_head}
+use Rattle.no_read_instructions.specs.Heads.{other_word, or_cast, giver_word, or_binary, action_word, call_word, or_action, or_giver, head_word, instr_head}
 use Rattle.no_read_instructions.specs.Instructions.{instr_body, named_instr, an_instr, instr_goes_on}
 use Rattle.no_read_instructions.specs.declared.heads.Giver.{Giver}
 use Rattle.no_read_instructions.specs.declared.heads.Giver.TheVariants as giver
@@ -95,7 +96,7 @@ module _ {X : Type 0} (word w : List ℕ) (x : X) where
       go true is f = same_word word w out is
       go false is f = more f
 
-binary_out : (word : List ℕ) (y : BinOp) → binary_word word ≡ Some y → is_attribute_word word ≡ false
+binary_out : (word : List ℕ) (y : BinOp) → binary_named word ≡ Some y → is_attribute_word word ≡ false
 binary_out word y e =
     or_else word (codes "add") bin.Add _ y refl (
     or_else word (codes "sub") bin.Sub _ y refl (
@@ -112,7 +113,7 @@ binary_out word y e =
     or_else word (codes "xor") bin.Xor _ y refl (
     λ e. absurd cc))))))))))))) e
 
-cast_out : (word : List ℕ) (y : CastOp) → cast_word word ≡ Some y → is_attribute_word word ≡ false
+cast_out : (word : List ℕ) (y : CastOp) → cast_named word ≡ Some y → is_attribute_word word ≡ false
 cast_out word y e =
     or_else word (codes "trunc") cast.Trunc _ y refl (
     or_else word (codes "zext") cast.ZExt _ y refl (
@@ -151,9 +152,9 @@ call_out word y e =
     λ e. absurd cc)))) e
 
 giver_out : (word : List ℕ) (y : Giver) → giver_word word ≡ Some y → is_attribute_word word ≡ false
-giver_out word y e = go (binary_word word) (cast_word word) refl refl e
+giver_out word y e = go (binary_named word) (cast_named word) refl refl e
   where
-    go : (b : Option BinOp) (c : Option CastOp) → binary_word word ≡ b → cast_word word ≡ c → or_binary b word ≡ Some y → is_attribute_word word ≡ false
+    go : (b : Option BinOp) (c : Option CastOp) → binary_named word ≡ b → cast_named word ≡ c → or_binary b word ≡ Some y → is_attribute_word word ≡ false
     go (Some b) c is also f = binary_out word b is
     go None (Some c) is also f = cast_out word c also
     go None None is also f = other_out word y (sym (ap (λ (o : Option CastOp). or_cast o word) also) ∙ f)

@@ -13,9 +13,11 @@ use Rattle.no_read_registers.specs.Numbered.{a_block_label, no_block_label}
 use Rattle.no_read_functions.specs.declared.blocks.Piece.{Piece}
 use Rattle.no_read_functions.specs.declared.blocks.Piece.TheVariants as piece
 
+-- whether a token is the closing brace
 abbrev pub is_close : List ℕ → Token → Bool
 is_close text token = is_sign text (codes "}") token
 
+-- whether a token is a label at the beginning of a block
 abbrev pub is_label : Token → Bool
 is_label token = is_kind Label token
 
@@ -33,17 +35,19 @@ with_open blocks label instrs r = after r (λ x. Ok (blocks ++ blocks_of label i
 unfoldable pub closing : List ℕ → Rule Locals (Option Piece)
 closing text = a_sign text (codes "}") >>= λ _. done None
 
+-- a label, which begins a block
 unfoldable pub label_piece : List ℕ → Rule Locals (Option Piece)
 label_piece text = a_block_label text >>= λ label. done (Some (piece.Label label))
 
+-- an instruction
 unfoldable pub instr_piece : Rule Locals Instr → Rule Locals (Option Piece)
 instr_piece instr = instr >>= λ i. done (Some (piece.Instr i))
 
--- the first block has its label
+-- the first block by its label
 unfoldable pub labelled : List ℕ → Rule Locals (ℕ × List Instr)
 labelled text = a_block_label text >>= λ label. done (label, [])
 
--- or else it has the next number, and begins with an instruction
+-- the first block without a label, which has the next number, by its first instruction
 unfoldable pub unlabelled : Rule Locals Instr → Rule Locals (ℕ × List Instr)
 unlabelled instr = do
   label ← no_block_label
@@ -55,6 +59,7 @@ module _ (text : List ℕ) (instr : Rule Locals Instr) where
   unfoldable pub a_piece : Rule Locals (Option Piece)
   a_piece = if_next (is_close text) (closing text) (if_next is_label (label_piece text) (instr_piece instr))
 
+  -- how the first block begins: by its label, or by its first instruction
   unfoldable pub entry : Rule Locals (ℕ × List Instr)
   entry = if_next is_label (labelled text) (unlabelled instr)
 

@@ -22,6 +22,7 @@ head_body m role = do
   blocks ← body m.text (an_instr m role)
   done (head, blocks)
 
+-- a head, blocks, and the names of registers and labels, as one function
 abbrev pub written : (Head × List Block) × Locals → Written
 written f = record { head = f.0.0; blocks = f.0.1; names = f.1 }
 

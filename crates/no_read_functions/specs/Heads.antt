@@ -23,6 +23,7 @@ use Rattle.no_read_functions.specs.declared.heads.Head.{Head}
 abbrev pub any_name : Rule Locals (Unit {0})
 any_name = plain (λ token. only_where (is_kind Local token))
 
+-- the written register, or else the one that the counter names
 abbrev pub or_no_name : Option ℕ → Rule Locals ℕ
 or_no_name (Some register) = done register
 or_no_name None = no_name
@@ -35,9 +36,11 @@ own_name text = maybe (is_kind Local) (a_definition text) >>= or_no_name
 unfoldable pub place_name : Rule Locals ℕ
 place_name = maybe (is_kind Local) any_name >>= λ _. no_name
 
+-- the register of a parameter: in a definition by its name, in a declaration by its place
 abbrev pub param_name : List ℕ → Bool → Rule Locals ℕ
 param_name text named = choose named (own_name text) place_name
 
+-- a parameter: its type, attributes without an effect, and its register
 unfoldable pub a_param : Meaning → Bool → Rule Locals (ℕ × Ty)
 a_param m named = do
   t ← lift (a_type m 64)
@@ -49,6 +52,7 @@ a_param m named = do
 abbrev pub param_goes_on : List ℕ → Token → Bool
 param_goes_on text token = may_go_on text token || is_kind Local token
 
+-- the parameters in parentheses
 unfoldable pub params : Meaning → Bool → Rule Locals (List (ℕ × Ty))
 params m named = a_sign m.text (codes "(") >>= λ _. items m.text (codes ")") (a_param m named)
 

@@ -49,9 +49,11 @@ call_parts m role of register = do
 abbrev pub void_of : List ℕ → Bool → Token → Result (Unit {0}) Flaw
 void_of text written token = only_where (is_word text (codes "void") token && not written)
 
+-- the word `void`, and the other parts of a call that gives no result
 unfoldable pub void_call : Meaning → Role → Option ℕ → Rule Locals Instr
 void_call m role register = lift (plain (void_of m.text (is_some register))) >>= λ _. call_parts m role ty.Void None
 
+-- a type, and the other parts of a call whose result has it
 unfoldable pub typed_call : Meaning → Role → Option ℕ → Rule Locals Instr
 typed_call m role register = do
   of ← some_type m
@@ -59,6 +61,7 @@ typed_call m role register = do
   call ← call_parts m role of (Some result)
   done call
 
+-- behind the attributes of a call: the type of its result, and the other parts
 abbrev pub call_type : Meaning → Role → Option ℕ → Rule Locals Instr
 call_type m role register = if_next (is_word m.text (codes "void")) (void_call m role register) (typed_call m role register)
 

@@ -3,9 +3,8 @@ use Rattle.std.specs.Prelude.{ℕ, Bool, List, bytes_eq, codes, Option, Some, No
 use Rattle.no_lex.specs.declared.token.Token.{Token}
 use Rattle.no_lex.specs.declared.token.TokenKind.TheVariants.{Word}
 use Rattle.no_ir.specs.declared.instruction.BinOp.{BinOp}
-use Rattle.no_ir.specs.declared.instruction.BinOp.TheVariants as bin
 use Rattle.no_ir.specs.declared.instruction.CastOp.{CastOp}
-use Rattle.no_ir.specs.declared.instruction.CastOp.TheVariants as cast
+use Rattle.no_words.specs.Words.{binary_named, cast_named}
 use Rattle.no_read_rules.specs.declared.fault.Flaw.{Flaw}
 use Rattle.no_read_rules.specs.declared.fault.Flaw.TheVariants.{Syntax}
 use Rattle.no_read_rules.specs.Spelled.{spelled, is_kind}
@@ -16,33 +15,7 @@ use Rattle.no_read_instructions.specs.declared.heads.Action.TheVariants as actio
 use Rattle.no_read_instructions.specs.declared.heads.InstrHead.{InstrHead}
 use Rattle.no_read_instructions.specs.declared.heads.InstrHead.TheVariants as head
 
-abbrev pub binary_word : List ℕ → Option BinOp
-binary_word word =
-    if bytes_eq word (codes "add") then Some bin.Add
-    else (if bytes_eq word (codes "sub") then Some bin.Sub
-    else (if bytes_eq word (codes "mul") then Some bin.Mul
-    else (if bytes_eq word (codes "udiv") then Some bin.UDiv
-    else (if bytes_eq word (codes "urem") then Some bin.URem
-    else (if bytes_eq word (codes "sdiv") then Some bin.SDiv
-    else (if bytes_eq word (codes "srem") then Some bin.SRem
-    else (if bytes_eq word (codes "shl") then Some bin.Shl
-    else (if bytes_eq word (codes "lshr") then Some bin.LShr
-    else (if bytes_eq word (codes "ashr") then Some bin.AShr
-    else (if bytes_eq word (codes "and") then Some bin.And
-    else (if bytes_eq word (codes "or") then Some bin.Or
-    else (if bytes_eq word (codes "xor") then Some bin.Xor
-    else None))))))))))))
-
-abbrev pub cast_word : List ℕ → Option CastOp
-cast_word word =
-    if bytes_eq word (codes "trunc") then Some cast.Trunc
-    else (if bytes_eq word (codes "zext") then Some cast.ZExt
-    else (if bytes_eq word (codes "sext") then Some cast.SExt
-    else (if bytes_eq word (codes "ptrtoint") then Some cast.PtrToInt
-    else (if bytes_eq word (codes "inttoptr") then Some cast.IntToPtr
-    else (if bytes_eq word (codes "bitcast") then Some cast.BitCast
-    else None)))))
-
+-- what else with a result a word begins
 abbrev pub other_word : List ℕ → Option Giver
 other_word word =
     if bytes_eq word (codes "icmp") then Some giver.Compare
@@ -54,17 +27,19 @@ other_word word =
     else (if bytes_eq word (codes "getelementptr") then Some giver.Address
     else None))))))
 
+-- a conversion, or else what the word begins without one
 abbrev pub or_cast : Option CastOp → List ℕ → Option Giver
 or_cast (Some op) word = Some (giver.Cast op)
 or_cast None word = other_word word
 
+-- a binary operator, or else what the word begins without one
 abbrev pub or_binary : Option BinOp → List ℕ → Option Giver
 or_binary (Some op) word = Some (giver.Binary op)
-or_binary None word = or_cast (cast_word word) word
+or_binary None word = or_cast (cast_named word) word
 
 -- a word that begins an instruction with a result
 abbrev pub giver_word : List ℕ → Option Giver
-giver_word word = or_binary (binary_word word) word
+giver_word word = or_binary (binary_named word) word
 
 -- a word that begins an instruction without one
 abbrev pub action_word : List ℕ → Option Action
@@ -76,6 +51,7 @@ action_word word =
     else (if bytes_eq word (codes "unreachable") then Some action.Unreachable
     else None))))
 
+-- `call`, or a word that stands before it
 abbrev pub call_word : List ℕ → Result InstrHead Flaw
 call_word word =
     if bytes_eq word (codes "call") then Ok head.Call
@@ -89,12 +65,15 @@ abbrev pub or_action : Option Action → Bool → List ℕ → Result InstrHead 
 or_action (Some a) written word = if written then Err Syntax else Ok (head.Acts a)
 or_action None written word = call_word word
 
+-- an instruction with a result, or else what the word begins without one
 abbrev pub or_giver : Option Giver → Bool → List ℕ → Result InstrHead Flaw
 or_giver (Some g) written word = Ok (head.Gives g)
 or_giver None written word = or_action (action_word word) written word
 
+-- what the first word of an instruction begins, behind a written result or not
 abbrev pub head_word : Bool → List ℕ → Result InstrHead Flaw
 head_word written word = or_giver (giver_word word) written word
 
+-- what the first token of an instruction begins, behind a written result or not
 abbrev pub instr_head : List ℕ → Bool → Token → Result InstrHead Flaw
 instr_head text written token = if is_kind Word token then head_word written (spelled text token) else Err Syntax

@@ -38,7 +38,7 @@ giver_form m role giver.Alloca = memory.alloca m role
 giver_form m role giver.Load = ended m.text role true (memory.load m)
 giver_form m role giver.Address = memory.address m role
 
--- an operation without one
+-- an operation without a result, behind its first word, and whether the partition made it
 abbrev pub action_form : Meaning → Role → Action → Rule Locals (Op × Bool)
 action_form m role action.Store = ended m.text role true (memory.store m)
 action_form m role action.Br = ended m.text role false (br m)
@@ -46,27 +46,33 @@ action_form m role action.Switch = ended m.text role false (switch m)
 action_form m role action.Ret = ended m.text role false (ret m)
 action_form m role action.Unreachable = finish m.text role false op.Unreachable
 
+-- behind the first word of an instruction with a result: its other parts, and the register that it assigns
 unfoldable pub giving : Meaning → Role → Option ℕ → Giver → Rule Locals Instr
 giving m role written g = do
   register ← result_of written
   form ← giver_form m role g
   done (record { result = Some register; inserted = form.1; op = form.0 })
 
+-- behind the first word of an instruction without a result: its other parts
 unfoldable pub acting : Meaning → Role → Action → Rule Locals Instr
 acting m role a = action_form m role a >>= λ form. done (record { result = None; inserted = form.1; op = form.0 })
 
+-- behind a word that stands before `call`: that word, and the other parts of a call
 unfoldable pub tail_call : Meaning → Role → Option ℕ → Rule Locals Instr
 tail_call m role written = word m.text (codes "call") >>= λ _. call_form m role written
 
+-- what follows the first word of an instruction
 abbrev pub after_instr_head : Meaning → Role → Option ℕ → InstrHead → Rule Locals Instr
 after_instr_head m role written (head.Gives g) = giving m role written g
 after_instr_head m role written head.Call = call_form m role written
 after_instr_head m role written head.TailCall = tail_call m role written
 after_instr_head m role written (head.Acts a) = acting m role a
 
+-- an instruction behind its written result, or one where none is written
 unfoldable pub instr_body : Meaning → Role → Option ℕ → Rule Locals Instr
 instr_body m role written = lift (plain (instr_head m.text (is_some written))) >>= after_instr_head m role written
 
+-- a written result, an equals sign, and an instruction that gives it
 unfoldable pub named_instr : Meaning → Role → Rule Locals Instr
 named_instr m role = do
   register ← a_definition m.text

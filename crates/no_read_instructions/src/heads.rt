@@ -1,10 +1,11 @@
 ghost use Rattle.std.specs.Prelude.{◌≡◌};
 ghost use Rattle.no_read_rules.specs.Rules.{Gives, valued, plain};
-ghost use Rattle.no_read_instructions.specs.Heads.{binary_word, cast_word, other_word, or_cast, or_binary, giver_word, action_word, call_word, or_action, or_giver, head_word, instr_head};
+ghost use Rattle.no_read_instructions.specs.Heads.{other_word, or_cast, or_binary, giver_word, action_word, call_word, or_action, or_giver, head_word, instr_head};
 
 use no_ir::{BinOp, CastOp};
 use no_lex::{Token, TokenKind};
 use no_read_rules::{Flaw, Stop, fault_at, is_kind, spelled, syntax};
+use no_words::{binary_named, cast_named};
 
 /// An instruction with a result.
 #[derive(Clone, Copy, Debug, PartialEq, Eq)]
@@ -38,47 +39,6 @@ pub enum InstrHead {
     /// A word that stands before `call`.
     TailCall,
     Acts(Action),
-}
-
-fn binary_word(word: &[u8]) -> Option<BinOp>
-    ensures { result ≡ binary_word word.now }
-{
-    match word {
-        b"add" => Some(BinOp::Add),
-        b"sub" => Some(BinOp::Sub),
-        b"mul" => Some(BinOp::Mul),
-        b"udiv" => Some(BinOp::UDiv),
-        b"urem" => Some(BinOp::URem),
-        b"sdiv" => Some(BinOp::SDiv),
-        b"srem" => Some(BinOp::SRem),
-        b"shl" => Some(BinOp::Shl),
-        b"lshr" => Some(BinOp::LShr),
-        b"ashr" => Some(BinOp::AShr),
-        b"and" => Some(BinOp::And),
-        b"or" => Some(BinOp::Or),
-        b"xor" => Some(BinOp::Xor),
-        _ => None,
-    }
-}
-
-fn cast_word(word: &[u8]) -> Option<CastOp>
-    ensures { result ≡ cast_word word.now }
-{
-    if word == b"trunc".as_slice() {
-        Some(CastOp::Trunc)
-    } else if word == b"zext".as_slice() {
-        Some(CastOp::ZExt)
-    } else if word == b"sext".as_slice() {
-        Some(CastOp::SExt)
-    } else if word == b"ptrtoint".as_slice() {
-        Some(CastOp::PtrToInt)
-    } else if word == b"inttoptr".as_slice() {
-        Some(CastOp::IntToPtr)
-    } else if word == b"bitcast".as_slice() {
-        Some(CastOp::BitCast)
-    } else {
-        None
-    }
 }
 
 fn other_word(word: &[u8]) -> Option<Giver>
@@ -115,9 +75,9 @@ fn or_cast(op: Option<CastOp>, word: &[u8]) -> Option<Giver>
 fn giver_word(word: &[u8]) -> Option<Giver>
     ensures { result ≡ giver_word word.now }
 {
-    match binary_word(word) {
+    match binary_named(word) {
         Some(op) => Some(Giver::Binary(op)),
-        None => or_cast(cast_word(word), word),
+        None => or_cast(cast_named(word), word),
     }
 }
 

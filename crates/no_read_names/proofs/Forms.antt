@@ -1,5 +1,5 @@
 -- What the forms of instructions do to the scan.
-use Rattle.std.proofs.Common.{◌≡◌, ℕ, suc, Bool, true, false, ◌&&◌, ◌||◌, List, [], ◌∷◌, bytes_eq, codes, Some, None, Ok, is_ok, refl, ap}
+use Rattle.std.proofs.Common.{◌≡◌, ℕ, suc, Bool, true, false, ◌&&◌, ◌||◌, List, [], ◌∷◌, bytes_eq, codes, Some, None, Ok, is_ok, ok_or, refl, ap}
 use Rattle.no_lex.specs.declared.token.Token.{Token}
 use Rattle.no_lex.specs.declared.token.TokenKind.TheVariants as kind
 use Rattle.no_ir.specs.declared.types.Ty.{Ty}
@@ -9,6 +9,8 @@ use Rattle.no_ir.specs.declared.instruction.BinOp.{BinOp}
 use Rattle.no_ir.specs.declared.instruction.CastOp.{CastOp}
 use Rattle.no_ir.specs.declared.instruction.Pred.{Pred}
 use Rattle.no_ir.specs.declared.instruction.Op.TheVariants as op
+use Rattle.no_words.specs.Words.{pred_named}
+use Rattle.no_read_rules.specs.declared.fault.Flaw.TheVariants.{Syntax}
 use Rattle.no_read_rules.specs.Repeated.{repeat}
 use Rattle.no_read_rules.specs.Rules.{plain, lift, if_next, checked}
 use Rattle.no_read_rules.specs.Scope.{Meaning}
@@ -21,7 +23,7 @@ use Rattle.no_read_operations.specs.declared.memory.AllocaEnd.{AllocaEnd}
 use Rattle.no_read_operations.specs.Operands.{word, sign, some_type, this_type, a_width, an_operand, a_pointer, sized_operand, is_flag_word}
 use Rattle.no_read_operations.specs.Ends.{is_comma, an_alignment, an_attachment, listed}
 use Rattle.no_read_operations.specs.Folded.{folded}
-use Rattle.no_read_operations.specs.Simple.{binary_flags, binary_parts, binary, cast_flags, cast_parts, cast_form, pred_word, pred_of, compare_parts, compare, freeze, select}
+use Rattle.no_read_operations.specs.Simple.{binary_flags, binary_parts, binary, cast_flags, cast_parts, cast_form, pred_of, compare_parts, compare, freeze, select}
 use Rattle.no_read_operations.specs.Memory.{is_volatile, load_parts, volatile_load, load, store_parts, volatile_store, store, address_parts, address, opens_alignment, opens_count, stated_alignment, stated_count, alloca_attachment, count_or_attachment, alloca_step, alloca_start, alloca}
 use Rattle.no_read_operations.specs.Flow.{return_void, return_value, ret, branch, branch_if, br, same_width, a_case, no_case, one_case, more_case, switch, a_pair, phi}
 use Rattle.no_read_names.proofs.Marks.{where_true, word_token, a_word_token}
@@ -78,8 +80,8 @@ module _ (m : Meaning) where
 
   pred_moves : (p : Pred) (t : Token) → pred_of m.text t ≡ Ok p → Moves m.text deep deep (t ∷ [])
   pred_moves p t e =
-      let k = where_true (is_kind kind.Word t) (pred_word (spelled m.text t)) p e in
-      moves_anywhere m.text deep (t ∷ []) (other_moves m.text t (word_token m.text t (λ w. is_ok (pred_word w)) refl refl k.0 (ap is_ok k.1)))
+      let k = where_true (is_kind kind.Word t) (ok_or (pred_named (spelled m.text t)) Syntax) p e in
+      moves_anywhere m.text deep (t ∷ []) (other_moves m.text t (word_token m.text t (λ w. is_ok (ok_or (pred_named w) Syntax)) refl refl k.0 (ap is_ok k.1)))
 
   compare_parts_run : Runs m.text deep deep (compare_parts m)
   unfolding compare_parts

@@ -19,7 +19,7 @@ use Rattle.no_read_attributes.specs.Ending.{more_where}
 use Rattle.no_read_attributes.specs.Words.{is_node, is_one}
 use Rattle.no_read_toplevel.specs.declared.globals.TailHead.{TailHead}
 use Rattle.no_read_toplevel.specs.declared.globals.TailHead.TheVariants.{Align, Section, Attachment}
-use Rattle.no_read_toplevel.specs.Globals.{linkage_words, visibility_words, is_idle, constant_of, is_metadata, metadata_of, tail_head, after_tail_head, a_tail, is_comma, more_tail, last_of, tails, a_global}
+use Rattle.no_read_toplevel.specs.Globals.{idle_words, is_idle, constant_of, is_metadata, metadata_of, tail_head, after_tail_head, a_tail, is_comma, more_tail, last_of, tails, a_global}
 use Rattle.no_read_attributes.specs.Symbols.{symbol_name}
 use Rattle.no_read_symbols.specs.declared.symbols.Symbols.{Symbols}
 use Rattle.no_read_symbols.specs.Scan.{symbols_from}
@@ -65,8 +65,8 @@ module _ (text : List ℕ) where
 
   idle_moves : (t : Token) → is_idle text t ≡ true → Moves text flat flat (t ∷ [])
   idle_moves t e =
-      let k = both (is_kind kind.Word t) (is_one linkage_words (spelled text t) || is_one visibility_words (spelled text t)) e in
-      other_moves text t (word_token text t (λ w. is_one linkage_words w || is_one visibility_words w) refl refl k.0 k.1)
+      let k = both (is_kind kind.Word t) (is_one idle_words (spelled text t)) e in
+      other_moves text t (word_token text t (is_one idle_words) refl refl k.0 k.1)
 
   constant_moves : (c : Bool) (t : Token) → constant_of text t ≡ Ok c → Moves text flat flat (t ∷ [])
   constant_moves c t e = go (is_word text (codes "constant") t) (is_word text (codes "global") t) refl refl e

@@ -15,7 +15,8 @@ use Rattle.no_read_rules.specs.Types.{word_type, a_type}
 use Rattle.no_read_rules.specs.Unescaped.{name_of}
 use Rattle.no_read_constants.specs.declared.places.PlaceHead.{PlaceHead}
 use Rattle.no_read_constants.specs.declared.places.PlaceHead.TheVariants.{Bare, Gep}
-use Rattle.no_read_constants.specs.Places.{symbol_of, symbol_named, int_width, width_of, truth_at, number_by, number_at, is_flag, an_index, indices, gep_parts, bare_or, place_head, after_place_head, a_place, with_sign}
+use Rattle.no_eval.specs.Numbers.{signed}
+use Rattle.no_read_constants.specs.Places.{symbol_of, symbol_named, int_width, width_of, truth_at, number_by, number_at, is_flag, an_index, indices, gep_parts, bare_or, place_head, after_place_head, a_place}
 use Rattle.no_read_symbols.specs.declared.standing.Bracket.TheVariants as bracket
 use Rattle.no_read_names.proofs.Marks.{IsSo, from_flaw, where_true, word_so, token_so, word_token, a_word_token, integer_so, no_bracket}
 use Rattle.no_read_names.proofs.RuleMoves.{Runs, AllAt, plain_at, done_runs, then_at, then_runs, behind_runs, repeat_runs, more_item_runs, anywhere, below, word_runs, sign_runs, opens_round, round_closing}
@@ -91,7 +92,7 @@ module _ (m : Meaning) where
   unfolding an_index
   index_runs = then_runs m.text flat flat flat (plain (width_of m.text)) _ (plain_at (λ _ used. Moves m.text flat flat used) (width_of m.text) (λ w t e. width_moves m.text w t e))
       (λ width. then_runs m.text flat flat flat (plain (number_at m.text width)) _ (plain_at (λ _ used. Moves m.text flat flat used) (number_at m.text width) (λ n t e. number_moves m.text width n t e))
-      (λ number. done_runs m.text flat (with_sign width number)))
+      (λ number. done_runs m.text flat (signed width number)))
 
   indices_run : Runs m.text curved flat (indices m)
   unfolding indices

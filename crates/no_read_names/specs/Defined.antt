@@ -22,5 +22,6 @@ function_names [] = []
 function_names (top.Function w ∷ others) = w.head.name ∷ function_names others
 function_names (_ ∷ others) = function_names others
 
+-- the names of the globals and of the functions that forms define or declare, each once
 abbrev pub defined_by : List Top → Symbols
 defined_by forms = record { globals = names_once (global_names forms); functions = names_once (function_names forms) }

@@ -1,5 +1,5 @@
 -- Forms read by their parts: what is read part by part is what is read with neighbouring parts grouped.
-use Rattle.std.proofs.Common.{◌≡◌, ℕ, Bool, true, false, List, [], ◌∷◌, Option, Some, None, Result, Ok, Err, codes, refl, sym, ◌∙◌}
+use Rattle.std.proofs.Common.{◌≡◌, ℕ, Bool, false, List, [], ◌∷◌, Some, Result, Ok, Err, codes, refl, sym, ◌∙◌}
 use Rattle.no_lex.specs.declared.token.Token.{Token}
 use Rattle.no_ir.specs.declared.function.Role.{Role}
 use Rattle.no_ir.specs.declared.types.Ty.{Ty}
@@ -7,7 +7,6 @@ use Rattle.no_ir.specs.declared.types.Ty.TheVariants as ty
 use Rattle.no_ir.specs.declared.instruction.BinOp.{BinOp}
 use Rattle.no_ir.specs.declared.instruction.CastOp.{CastOp}
 use Rattle.no_ir.specs.declared.instruction.Operand.{Operand}
-use Rattle.no_ir.specs.declared.instruction.Op.{Op}
 use Rattle.no_ir.specs.declared.instruction.Op.TheVariants as op
 use Rattle.no_read_rules.specs.declared.fault.Stopped.{Stopped}
 use Rattle.no_read_rules.specs.Repeated.{repeat}
@@ -17,11 +16,11 @@ use Rattle.no_read_constants.specs.Places.{width_of, number_at}
 use Rattle.no_read_registers.specs.declared.locals.Locals.{Locals}
 use Rattle.no_read_registers.specs.Numbered.{a_label}
 use Rattle.no_read_operations.specs.declared.ends.Listed.{Listed}
-use Rattle.no_read_operations.specs.Ends.{listed}
+use Rattle.no_read_operations.specs.Ends.{listed, some_listed}
 use Rattle.no_read_operations.specs.Operands.{word, sign, some_type, this_type, a_width, an_operand, a_pointer, sized_operand, typed_operand, two_operands, bit_operand, comma_same, to_type, comma_pointer, comma_label}
 use Rattle.no_read_operations.specs.Simple.{pred_of, binary_parts, cast_parts, compare_parts, freeze, select}
 use Rattle.no_read_operations.specs.Memory.{load_parts, store_parts, all_indices, address_parts}
-use Rattle.no_read_operations.specs.Flow.{return_value, branch_if, same_width, a_case, more_case, all_cases, switch, a_pair, all_pairs, phi}
+use Rattle.no_read_operations.specs.Flow.{return_value, branch_if, same_width, a_case, more_case, all_cases, switch, a_pair, phi}
 
 -- one reading behind another: the order of grouping doesn't matter
 after_after : {A B C : Type 0} (r : Result A Stopped) (f : A → Result B Stopped) (g : B → Result C Stopped) → after (after r f) g ≡ after r (λ x. after (f x) g)
@@ -72,15 +71,16 @@ module _ (m : Meaning) {B : Type 0} (s : Locals) (tokens : List Token) where
   unfolding all_cases
   cases_grouped width k = after_after ((sign m.text (codes "[")).read s tokens) _ k
 
-  pairs_grouped : (role : Role) (of : Ty) (k : Then (Listed (Operand × ℕ)) B) → after ((all_pairs m role of).read s tokens) k
-      ≡ after ((a_pair m of).read s tokens) (λ x. after ((listed m.text role (a_pair m of) (record { items = x.0 ∷ []; begun = false; inserted = false })).read x.1 x.2) k)
-  unfolding all_pairs
-  pairs_grouped role of k = after_after ((a_pair m of).read s tokens) _ k
+  listed_grouped : {A : Type 0} (role : Role) (item : Rule Locals A) (k : Then (Listed A) B) → after ((some_listed m.text role item).read s tokens) k
+      ≡ after (item.read s tokens) (λ x. after ((listed m.text role item (record { items = x.0 ∷ []; begun = false; inserted = false })).read x.1 x.2) k)
+  unfolding some_listed
+  listed_grouped role item k = after_after (item.read s tokens) _ k
 
+module _ (m : Meaning) {B : Type 0} (s : Locals) (tokens : List Token) where
   indices_grouped : (role : Role) (k : Then (Listed (ℕ × Operand)) B) → after ((all_indices m role).read s tokens) k
       ≡ after ((sign m.text (codes ",")).read s tokens) (λ x. after ((sized_operand m).read x.1 x.2) (λ y. after ((listed m.text role (sized_operand m) (record { items = y.0 ∷ []; begun = false; inserted = false })).read y.1 y.2) k))
   unfolding all_indices
-  indices_grouped role k = after_after ((sign m.text (codes ",")).read s tokens) _ k ∙ under ((sign m.text (codes ",")).read s tokens) _ _ (λ x. after_after ((sized_operand m).read x.1 x.2) _ k)
+  indices_grouped role k = after_after ((sign m.text (codes ",")).read s tokens) _ k ∙ under ((sign m.text (codes ",")).read s tokens) _ _ (λ x. listed_grouped m x.1 x.2 role (sized_operand m) k)
 
 module _ (m : Meaning) (s : Locals) (tokens : List Token) where
   pub binary_is : (b : BinOp) → (binary_parts m b).read s tokens ≡ after ((a_width m).read s tokens) (λ w. after ((two_operands m (ty.Int w.0)).read w.1 w.2) (λ p. Ok (op.Binary b w.0 p.0.0 p.0.1, p.1, p.2)))
@@ -142,6 +142,6 @@ module _ (m : Meaning) (s : Locals) (tokens : List Token) where
   switch_is = under ((a_width m).read s tokens) _ _ (λ w. under ((an_operand m (ty.Int w.0)).read w.1 w.2) _ _ (λ v. sym (label_grouped m v.1 v.2 (λ l. after ((all_cases m w.0).read l.1 l.2) (λ c. Ok (op.Switch w.0 v.0 l.0 c.0, c.1, c.2)))
       ∙ under ((sign m.text (codes ",")).read v.1 v.2) _ _ (λ n. under ((a_label m.text).read n.1 n.2) _ _ (λ l. cases_grouped m l.1 l.2 w.0 (λ c. Ok (op.Switch w.0 v.0 l.0 c.0, c.1, c.2)))))))
 
-  pub phi_is : (role : Role) → (phi m role).read s tokens ≡ after ((some_type m).read s tokens) (λ t. after ((all_pairs m role t.0).read t.1 t.2) (λ all. Ok ((op.Phi t.0 all.0.items, all.0.inserted), all.1, all.2)))
+  pub phi_is : (role : Role) → (phi m role).read s tokens ≡ after ((some_type m).read s tokens) (λ t. after ((some_listed m.text role (a_pair m t.0)).read t.1 t.2) (λ all. Ok ((op.Phi t.0 all.0.items, all.0.inserted), all.1, all.2)))
   unfolding phi
-  phi_is role = under ((some_type m).read s tokens) _ _ (λ t. sym (pairs_grouped m t.1 t.2 role t.0 (λ all. Ok ((op.Phi t.0 all.0.items, all.0.inserted), all.1, all.2))))
+  phi_is role = under ((some_type m).read s tokens) _ _ (λ t. sym (listed_grouped m t.1 t.2 role (a_pair m t.0) (λ all. Ok ((op.Phi t.0 all.0.items, all.0.inserted), all.1, all.2))))

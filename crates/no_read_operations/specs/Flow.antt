@@ -17,27 +17,31 @@ use Rattle.no_read_registers.specs.declared.locals.Locals.{Locals}
 use Rattle.no_read_registers.specs.Numbered.{a_label, a_label_name}
 use Rattle.no_read_operations.specs.Operands.{word, sign, some_type, a_width, an_operand}
 use Rattle.no_read_operations.specs.Ends.{listed}
-use Rattle.no_read_operations.specs.declared.ends.Listed.{Listed}
 
 -- ---- `ret`
 
+-- the word `void`
 unfoldable pub return_void : Meaning → Rule Locals Op
 return_void m = word m.text (codes "void") >>= λ _. done (op.Ret None)
 
+-- a value with its type
 unfoldable pub return_value : Meaning → Rule Locals Op
 return_value m = do
   of ← some_type m
   value ← an_operand m of
   done (op.Ret (Some (of, value)))
 
+-- behind the word `ret`: the word `void`, or a value with its type
 abbrev pub ret : Meaning → Rule Locals Op
 ret m = if_next (is_word m.text (codes "void")) (return_void m) (return_value m)
 
 -- ---- `br`
 
+-- a label, which is always gone to
 unfoldable pub branch : Meaning → Rule Locals Op
 branch m = a_label m.text >>= λ label. done (op.Br label)
 
+-- a bit, the label where it is 1, and the label where it is 0
 unfoldable pub branch_if : Meaning → Rule Locals Op
 branch_if m = do
   _ ← word m.text (codes "i1")
@@ -48,11 +52,13 @@ branch_if m = do
   second ← a_label m.text
   done (op.CondBr condition first second)
 
+-- behind the word `br`: a label, or a bit and two labels
 abbrev pub br : Meaning → Rule Locals Op
 br m = if_next (is_word m.text (codes "label")) (branch m) (branch_if m)
 
 -- ---- `switch`
 
+-- the width of a case, which has to be that of its switch
 abbrev pub same_width : ℕ → ℕ → Result (Unit {0}) Flaw
 same_width want width = if width == want then Ok tt else Err Syntax
 
@@ -65,9 +71,11 @@ a_case m width = do
   label ← a_label m.text
   done (number, label)
 
+-- the closing bracket
 unfoldable pub no_case : Meaning → Rule Locals (Option (ℕ × ℕ))
 no_case m = sign m.text (codes "]") >>= λ _. done None
 
+-- one more case
 unfoldable pub one_case : Meaning → ℕ → Rule Locals (Option (ℕ × ℕ))
 one_case m width = a_case m width >>= λ c. done (Some c)
 
@@ -79,6 +87,7 @@ more_case m width = if_next (is_sign m.text (codes "]")) (no_case m) (one_case m
 unfoldable pub all_cases : Meaning → ℕ → Rule Locals (List (ℕ × ℕ))
 all_cases m width = sign m.text (codes "[") >>= λ _. repeat (more_case m width)
 
+-- behind the word `switch`: a value with its type, the default label, and the cases in brackets
 unfoldable pub switch : Meaning → Rule Locals Op
 switch m = do
   width ← a_width m
@@ -101,10 +110,7 @@ a_pair m of = do
   _ ← sign m.text (codes "]")
   done (value, label)
 
--- at least one pair, and attachments
-unfoldable pub all_pairs : Meaning → Role → Ty → Rule Locals (Listed (Operand × ℕ))
-all_pairs m role of = a_pair m of >>= λ first. listed m.text role (a_pair m of) (record { items = first ∷ []; begun = false; inserted = false })
-
+-- behind the word `phi`: a type, at least one pair, and attachments
 unfoldable pub phi : Meaning → Role → Rule Locals (Op × Bool)
 phi m role = do
   of ← some_type m

@@ -21,12 +21,15 @@ use Rattle.no_read_operations.specs.declared.operands.Flags.TheVariants as flags
 abbrev pub DEPTH : ℕ
 DEPTH = 64
 
+-- one word
 abbrev pub word : List ℕ → List ℕ → Rule Locals (Unit {0})
 word text w = lift (a_word text w)
 
+-- one sign
 abbrev pub sign : List ℕ → List ℕ → Rule Locals (Unit {0})
 sign text w = lift (a_sign text w)
 
+-- a type
 abbrev pub some_type : Meaning → Rule Locals Ty
 some_type m = lift (a_type m DEPTH)
 
@@ -40,9 +43,11 @@ a_width m = lift (plain (width_of m.text))
 
 -- ---- operands
 
+-- a register that is used
 unfoldable pub register_operand : List ℕ → Rule Locals Operand
 register_operand text = a_register text >>= λ register. done (operand.Reg register)
 
+-- a constant at a type
 unfoldable pub const_operand : Meaning → Ty → Rule Locals Operand
 const_operand m ty = lift (a_const m DEPTH ty) >>= λ constant. done (operand.Const constant)
 
@@ -103,6 +108,7 @@ comma_label text = sign text (codes ",") >>= λ _. a_label text
 
 -- ---- words without an effect
 
+-- whether a token is one of these flags
 abbrev pub is_flag_word : List ℕ → Flags → Token → Bool
 is_flag_word text flags.Nothing token = false
 is_flag_word text flags.Wrapping token = is_word text (codes "nsw") token || is_word text (codes "nuw") token

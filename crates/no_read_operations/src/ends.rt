@@ -7,11 +7,11 @@ ghost use Rattle.no_read_attributes.specs.Attributes.{alignment_of};
 ghost use Rattle.no_read_rules.specs.Spelled.{is_sign};
 ghost use Rattle.no_read_registers.specs.declared.locals.Locals.{Locals};
 ghost use Rattle.no_read_operations.specs.Folded.{folded_all};
-ghost use Rattle.no_read_operations.specs.Ends.{is_comma, an_alignment, names_node, is_node, node_is, marks, an_attachment, end_alignment, end_attachment, end_step, end_mark, finish, with_inserted, behind_form, list_attachment};
+ghost use Rattle.no_read_operations.specs.Ends.{is_comma, an_alignment, names_node, is_node, node_is, marks, an_attachment, end_alignment, end_attachment, end_step, end_mark, finish, with_inserted, behind_form};
 
 use no_ir::{List, Op, Role};
 use no_lex::{Token, TokenKind};
-use no_read_attributes::alignment;
+use no_read_attributes::{alignment, is_node as is_debug_node};
 use no_read_rules::{Stop, is_kind, is_sign, is_word, skip_sign, skip_word, spelled, syntax};
 
 /// The word `align`, and a power of two up to 65,536.
@@ -34,8 +34,7 @@ fn names_node(spelling: &[u8]) -> bool
 {
     match spelling {
         [b'!'] => false,
-        [b'!', b'D', b'I', ..] => false,
-        _ => true,
+        _ => !is_debug_node(spelling),
     }
 }
 
@@ -86,30 +85,6 @@ pub struct Listed<T> {
     pub items: List<T>,
     pub begun: bool,
     pub inserted: bool,
-}
-
-/// An attachment behind items.
-#[tactic(auto, unfolding(crate::specs::Ends::list_attachment))]
-pub(crate) fn list_attachment<'b, T: Drop>(
-    text: &[u8],
-    role: Role,
-    listed: Listed<T>,
-    tokens: &'b [Token],
-) -> Result<(Listed<T>, &'b [Token]), Stop>
-    ensures { (s : Locals) → Gives (λ x. (x.0, s, x.1.now)) result ((list_attachment text.now role listed).read s tokens.now) }
-{
-    let Listed {
-        items,
-        inserted,
-        ..
-    } = listed;
-    let (inserted, rest) = an_attachment(text, role, inserted, tokens)?;
-    let listed = Listed {
-        items,
-        begun: true,
-        inserted,
-    };
-    Ok((listed, rest))
 }
 
 #[tactic(auto, unfolding(crate::specs::Ends::end_alignment))]

@@ -5,28 +5,19 @@ ghost use Rattle.no_read_rules.specs.Rules.{Gives, passed, plain, checked};
 ghost use Rattle.no_read_rules.specs.Scope.{Meaning, seen};
 ghost use Rattle.no_read_constants.specs.Places.{width_of};
 ghost use Rattle.no_read_registers.specs.declared.locals.Locals.{Locals};
-ghost use Rattle.no_read_operations.specs.Folded.{folded_all};
-ghost use Rattle.no_read_operations.specs.Ends.{is_comma, list_item, list_step};
-ghost use Rattle.no_read_operations.specs.Flow.{return_void, return_value, ret, branch, branch_if, br, same_width, a_case, no_case, one_case, more_case, all_cases, switch, a_pair, all_pairs, phi};
+ghost use Rattle.no_read_operations.specs.Flow.{return_void, return_value, ret, branch, branch_if, br, same_width, a_case, no_case, one_case, more_case, all_cases, switch, a_pair, phi};
 
-use crate::ends::{Listed, comma_next, list_attachment};
+use crate::ends::Listed;
+use crate::lists::{Item, some_listed};
 use crate::operands::{an_operand, bit_operand, comma_label, some_type, typed_operand};
 use no_ir::{List, Op, Operand, Role, Ty};
-use no_lex::{Token, TokenKind};
+use no_lex::Token;
 use no_read_constants::{number_at, width_of};
 use no_read_registers::{Locals, a_label, a_label_name};
-use no_read_rules::{Scope, Stop, is_kind, is_sign, is_word, skip_sign, skip_word, syntax};
+use no_read_rules::{Scope, Stop, is_sign, is_word, skip_sign, skip_word, syntax};
 use std::alloc::Global;
 
 // ---- `ret` and `br`
-
-#[tactic(auto, unfolding(crate::specs::Flow::return_void))]
-fn return_void<'b>(scope: &Scope, tokens: &'b [Token]) -> Result<(Op, &'b [Token]), Stop>
-    ensures { (s : Locals) → Gives (λ x. (x.0, s, x.1.now)) result ((return_void (seen scope.now)).read s tokens.now) }
-{
-    let rest = skip_word(scope.text, b"void", tokens)?;
-    Ok((Op::Ret(None), rest))
-}
 
 #[tactic(auto, using(crate::proofs::Grouped::return_is))]
 fn return_value<'b>(
@@ -42,6 +33,7 @@ fn return_value<'b>(
 }
 
 /// Behind `ret`: `void`, or `T a`.
+#[tactic(auto, unfolding(crate::specs::Flow::return_void))]
 pub fn ret<'b>(
     alloc: Global,
     scope: &Scope,
@@ -51,7 +43,7 @@ pub fn ret<'b>(
     ensures { Gives (λ x. (x.0, locals.new, x.1.now)) result ((ret (seen scope.now)).read locals.old tokens.now) }
 {
     match tokens {
-        [token, ..] if is_word(scope.text, b"void", token) => return_void(scope, tokens),
+        [token, rest @ ..] if is_word(scope.text, b"void", token) => Ok((Op::Ret(None), rest)),
         _ => return_value(alloc, scope, locals, tokens),
     }
 }
@@ -128,17 +120,6 @@ fn a_case<'b>(
     Ok(((number, label), rest))
 }
 
-#[tactic(auto, unfolding(crate::specs::Flow::no_case))]
-fn no_case<'b>(
-    scope: &Scope,
-    tokens: &'b [Token],
-) -> Result<(Option<(u64, u32)>, &'b [Token]), Stop>
-    ensures { (s : Locals) → Gives (λ x. (x.0, s, x.1.now)) result ((no_case (seen scope.now)).read s tokens.now) }
-{
-    let rest = skip_sign(scope.text, b"]", tokens)?;
-    Ok((None, rest))
-}
-
 #[tactic(auto, unfolding(crate::specs::Flow::one_case))]
 fn one_case<'b>(
     alloc: Global,
@@ -153,6 +134,7 @@ fn one_case<'b>(
     Ok((Some(found), rest))
 }
 
+#[tactic(auto, unfolding(crate::specs::Flow::no_case))]
 fn more_case<'b>(
     alloc: Global,
     scope: &Scope,
@@ -163,7 +145,7 @@ fn more_case<'b>(
     ensures { Gives (λ x. (x.0, locals.new, x.1.now)) result ((more_case (seen scope.now) width).read locals.old tokens.now) }
 {
     match tokens {
-        [token, ..] if is_sign(scope.text, b"]", token) => no_case(scope, tokens),
+        [token, rest @ ..] if is_sign(scope.text, b"]", token) => Ok((None, rest)),
         _ => one_case(alloc, scope, locals, width, tokens),
     }
 }
@@ -243,99 +225,30 @@ fn a_pair<'b>(
     Ok(((value, label), rest))
 }
 
-#[tactic(auto, unfolding(crate::specs::Ends::list_item))]
-fn pair_item<'b>(
-    alloc: Global,
-    scope: &Scope,
-    locals: &mut Locals,
-    of: &Ty,
-    listed: Listed<(Operand, u32)>,
-    tokens: &'b [Token],
-) -> Result<(Listed<(Operand, u32)>, &'b [Token]), Stop>
-    ensures { Gives (λ x. (x.0, locals.new, x.1.now)) result ((list_item (a_pair (seen scope.now) of.now) listed).read locals.old tokens.now) }
-{
-    let Listed {
-        mut items,
-        inserted,
-        ..
-    } = listed;
-    let (item, rest) = a_pair(alloc, scope, locals, of, tokens)?;
-    items.push(item)?;
-    let listed = Listed {
-        items,
-        begun: false,
-        inserted,
-    };
-    Ok((listed, rest))
+/// The pairs of a `phi` at a type.
+#[derive(Drop)]
+struct Pairs<'a> {
+    of: &'a Ty,
 }
 
-#[tactic(auto, unfolding(crate::specs::Ends::list_step))]
-fn pair_step<'b>(
-    alloc: Global,
-    scope: &Scope,
-    role: Role,
-    locals: &mut Locals,
-    of: &Ty,
-    listed: Listed<(Operand, u32)>,
-    tokens: &'b [Token],
-) -> Result<(Listed<(Operand, u32)>, &'b [Token]), Stop>
-    ensures { Gives (λ x. (x.0, locals.new, x.1.now)) result ((list_step (seen scope.now).text role (a_pair (seen scope.now) of.now) listed).read locals.old tokens.now) }
-{
-    let rest = skip_sign(scope.text, b",", tokens)?;
-    match rest {
-        [token, ..] if !listed.begun && !is_kind(TokenKind::Meta, token) => pair_item(
-            alloc, scope, locals, of, listed, rest,
-        ),
-        _ => list_attachment(scope.text, role, listed, rest),
+impl Item for Pairs<'_> {
+    type Of = (Operand, u32);
+
+    ghost rule = { λ pairs m. a_pair m pairs.of.now };
+
+    fn item<'b>(
+        &self,
+        alloc: Global,
+        scope: &Scope,
+        locals: &mut Locals,
+        tokens: &'b [Token],
+    ) -> Result<((Operand, u32), &'b [Token]), Stop> {
+        a_pair(alloc, scope, locals, self.of, tokens)
     }
-}
-
-fn pairs<'b>(
-    alloc: Global,
-    scope: &Scope,
-    role: Role,
-    locals: &mut Locals,
-    of: &Ty,
-    start: Listed<(Operand, u32)>,
-    tokens: &'b [Token],
-) -> Result<(Listed<(Operand, u32)>, &'b [Token]), Stop>
-    ensures { Gives (λ x. (x.0, locals.new, x.1.now)) result (folded_all (is_comma (seen scope.now).text) (list_step (seen scope.now).text role (a_pair (seen scope.now) of.now)) start locals.old tokens.now) }
-{
-    let mut listed = start;
-    let mut rest = tokens;
-    while comma_next(scope.text, rest) {
-        let (next, after) = pair_step(alloc, scope, role, locals, of, listed, rest)?;
-        listed = next;
-        rest = after;
-    }
-    Ok((listed, rest))
-}
-
-/// At least one pair, and attachments.
-#[tactic(auto, unfolding(crate::specs::Flow::all_pairs))]
-fn all_pairs<'b>(
-    alloc: Global,
-    scope: &Scope,
-    role: Role,
-    locals: &mut Locals,
-    of: &Ty,
-    tokens: &'b [Token],
-) -> Result<(Listed<(Operand, u32)>, &'b [Token]), Stop>
-    ensures { Gives (λ x. (x.0, locals.new, x.1.now)) result ((all_pairs (seen scope.now) role of.now).read locals.old tokens.now) }
-{
-    let (first, rest) = a_pair(alloc, scope, locals, of, tokens)?;
-    let mut items = List::new(alloc);
-    items.push(first)?;
-    let start = Listed {
-        items,
-        begun: false,
-        inserted: false,
-    };
-    pairs(alloc, scope, role, locals, of, start, rest)
 }
 
 /// Behind `phi`: `T`, at least one `[ a, %l ]`, and attachments; whether the partition made the instruction.
-#[tactic(auto, using(crate::proofs::Grouped::phi_is))]
+#[tactic(auto, using(crate::proofs::Grouped::phi_is, crate::proofs::FormLaws::pair_solid))]
 pub fn phi<'b>(
     alloc: Global,
     scope: &Scope,
@@ -346,7 +259,7 @@ pub fn phi<'b>(
     ensures { Gives (λ x. (x.0, locals.new, x.1.now)) result ((phi (seen scope.now) role).read locals.old tokens.now) }
 {
     let (of, rest) = some_type(alloc, scope, tokens)?;
-    let (all, rest) = all_pairs(alloc, scope, role, locals, &of, rest)?;
+    let (all, rest) = some_listed(alloc, scope, role, locals, &Pairs { of: &of }, rest)?;
     let Listed {
         items,
         inserted,

@@ -4,6 +4,7 @@
 mod ends;
 mod flow;
 mod laws;
+mod lists;
 mod memory;
 mod operands;
 mod simple;

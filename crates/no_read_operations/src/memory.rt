@@ -5,10 +5,11 @@ ghost use Rattle.no_read_rules.specs.Scope.{Meaning, seen};
 ghost use Rattle.no_read_registers.specs.declared.locals.Locals.{Locals};
 ghost use Rattle.no_read_operations.specs.Folded.{folded_all};
 ghost use Rattle.no_read_operations.specs.Operands.{sized_operand};
-ghost use Rattle.no_read_operations.specs.Ends.{is_comma, list_item, list_step};
+ghost use Rattle.no_read_operations.specs.Ends.{is_comma};
 ghost use Rattle.no_read_operations.specs.Memory.{load_parts, volatile_load, load, store_parts, volatile_store, store, all_indices, address_parts, address, stated_alignment, stated_count, alloca_attachment, count_or_attachment, alloca_step, alloca_start, alloca};
 
-use crate::ends::{Listed, an_alignment, an_attachment, comma_next, list_attachment};
+use crate::ends::{Listed, an_alignment, an_attachment, comma_next};
+use crate::lists::{Item, some_listed};
 use crate::operands::{comma_pointer, sized_operand, some_type, typed_operand};
 use no_ir::{List, Op, Operand, Role};
 use no_lex::{Token, TokenKind};
@@ -32,20 +33,8 @@ fn load_parts<'b>(
     Ok((Op::Load(volatile, of, place), rest))
 }
 
-#[tactic(auto, unfolding(crate::specs::Memory::volatile_load))]
-fn volatile_load<'b>(
-    alloc: Global,
-    scope: &Scope,
-    locals: &mut Locals,
-    tokens: &'b [Token],
-) -> Result<(Op, &'b [Token]), Stop>
-    ensures { Gives (λ x. (x.0, locals.new, x.1.now)) result ((volatile_load (seen scope.now)).read locals.old tokens.now) }
-{
-    let rest = skip_word(scope.text, b"volatile", tokens)?;
-    load_parts(alloc, scope, locals, true, rest)
-}
-
 /// Behind `load`: an optional `volatile`, and `T, ptr p`.
+#[tactic(auto, unfolding(crate::specs::Memory::volatile_load))]
 pub fn load<'b>(
     alloc: Global,
     scope: &Scope,
@@ -55,8 +44,8 @@ pub fn load<'b>(
     ensures { Gives (λ x. (x.0, locals.new, x.1.now)) result ((load (seen scope.now)).read locals.old tokens.now) }
 {
     match tokens {
-        [token, ..] if is_word(scope.text, b"volatile", token) => volatile_load(
-            alloc, scope, locals, tokens,
+        [token, rest @ ..] if is_word(scope.text, b"volatile", token) => load_parts(
+            alloc, scope, locals, true, rest,
         ),
         _ => load_parts(alloc, scope, locals, false, tokens),
     }
@@ -77,20 +66,8 @@ fn store_parts<'b>(
     Ok((Op::Store(volatile, of, value, place), rest))
 }
 
-#[tactic(auto, unfolding(crate::specs::Memory::volatile_store))]
-fn volatile_store<'b>(
-    alloc: Global,
-    scope: &Scope,
-    locals: &mut Locals,
-    tokens: &'b [Token],
-) -> Result<(Op, &'b [Token]), Stop>
-    ensures { Gives (λ x. (x.0, locals.new, x.1.now)) result ((volatile_store (seen scope.now)).read locals.old tokens.now) }
-{
-    let rest = skip_word(scope.text, b"volatile", tokens)?;
-    store_parts(alloc, scope, locals, true, rest)
-}
-
 /// Behind `store`: an optional `volatile`, and `T v, ptr p`.
+#[tactic(auto, unfolding(crate::specs::Memory::volatile_store))]
 pub fn store<'b>(
     alloc: Global,
     scope: &Scope,
@@ -100,8 +77,8 @@ pub fn store<'b>(
     ensures { Gives (λ x. (x.0, locals.new, x.1.now)) result ((store (seen scope.now)).read locals.old tokens.now) }
 {
     match tokens {
-        [token, ..] if is_word(scope.text, b"volatile", token) => volatile_store(
-            alloc, scope, locals, tokens,
+        [token, rest @ ..] if is_word(scope.text, b"volatile", token) => store_parts(
+            alloc, scope, locals, true, rest,
         ),
         _ => store_parts(alloc, scope, locals, false, tokens),
     }
@@ -109,73 +86,28 @@ pub fn store<'b>(
 
 // ---- `getelementptr`
 
-#[tactic(auto, unfolding(crate::specs::Ends::list_item))]
-fn index_item<'b>(
-    alloc: Global,
-    scope: &Scope,
-    locals: &mut Locals,
-    listed: Listed<(u8, Operand)>,
-    tokens: &'b [Token],
-) -> Result<(Listed<(u8, Operand)>, &'b [Token]), Stop>
-    ensures { Gives (λ x. (x.0, locals.new, x.1.now)) result ((list_item (sized_operand (seen scope.now)) listed).read locals.old tokens.now) }
-{
-    let Listed {
-        mut items,
-        inserted,
-        ..
-    } = listed;
-    let (item, rest) = sized_operand(alloc, scope, locals, tokens)?;
-    items.push(item)?;
-    let listed = Listed {
-        items,
-        begun: false,
-        inserted,
-    };
-    Ok((listed, rest))
-}
+/// The indices of an address.
+#[derive(Drop)]
+struct Indices;
 
-#[tactic(auto, unfolding(crate::specs::Ends::list_step))]
-fn index_step<'b>(
-    alloc: Global,
-    scope: &Scope,
-    role: Role,
-    locals: &mut Locals,
-    listed: Listed<(u8, Operand)>,
-    tokens: &'b [Token],
-) -> Result<(Listed<(u8, Operand)>, &'b [Token]), Stop>
-    ensures { Gives (λ x. (x.0, locals.new, x.1.now)) result ((list_step (seen scope.now).text role (sized_operand (seen scope.now)) listed).read locals.old tokens.now) }
-{
-    let rest = skip_sign(scope.text, b",", tokens)?;
-    match rest {
-        [token, ..] if !listed.begun && !is_kind(TokenKind::Meta, token) => index_item(
-            alloc, scope, locals, listed, rest,
-        ),
-        _ => list_attachment(scope.text, role, listed, rest),
-    }
-}
+impl Item for Indices {
+    type Of = (u8, Operand);
 
-fn indices<'b>(
-    alloc: Global,
-    scope: &Scope,
-    role: Role,
-    locals: &mut Locals,
-    start: Listed<(u8, Operand)>,
-    tokens: &'b [Token],
-) -> Result<(Listed<(u8, Operand)>, &'b [Token]), Stop>
-    ensures { Gives (λ x. (x.0, locals.new, x.1.now)) result (folded_all (is_comma (seen scope.now).text) (list_step (seen scope.now).text role (sized_operand (seen scope.now))) start locals.old tokens.now) }
-{
-    let mut listed = start;
-    let mut rest = tokens;
-    while comma_next(scope.text, rest) {
-        let (next, after) = index_step(alloc, scope, role, locals, listed, rest)?;
-        listed = next;
-        rest = after;
+    ghost rule = { λ _ m. sized_operand m };
+
+    fn item<'b>(
+        &self,
+        alloc: Global,
+        scope: &Scope,
+        locals: &mut Locals,
+        tokens: &'b [Token],
+    ) -> Result<((u8, Operand), &'b [Token]), Stop> {
+        sized_operand(alloc, scope, locals, tokens)
     }
-    Ok((listed, rest))
 }
 
 /// Behind a comma: at least one index, and attachments.
-#[tactic(auto, unfolding(crate::specs::Memory::all_indices))]
+#[tactic(auto, using(crate::proofs::FormLaws::sized_solid), unfolding(crate::specs::Memory::all_indices))]
 fn all_indices<'b>(
     alloc: Global,
     scope: &Scope,
@@ -186,15 +118,7 @@ fn all_indices<'b>(
     ensures { Gives (λ x. (x.0, locals.new, x.1.now)) result ((all_indices (seen scope.now) role).read locals.old tokens.now) }
 {
     let rest = skip_sign(scope.text, b",", tokens)?;
-    let (first, rest) = sized_operand(alloc, scope, locals, rest)?;
-    let mut items = List::new(alloc);
-    items.push(first)?;
-    let start = Listed {
-        items,
-        begun: false,
-        inserted: false,
-    };
-    indices(alloc, scope, role, locals, start, rest)
+    some_listed(alloc, scope, role, locals, &Indices, rest)
 }
 
 #[tactic(auto, using(crate::proofs::Grouped::address_is))]

@@ -10,11 +10,10 @@ ghost use Rattle.no_read_operations.specs.Operands.{DEPTH, register_operand, con
 
 use no_ir::{Operand, Ty};
 use no_lex::{Token, TokenKind};
+use no_module::same_type;
 use no_read_constants::{a_const, width_of};
 use no_read_registers::{Locals, a_label, a_register};
-use no_read_rules::{
-    Scope, Stop, a_type, is_kind, is_word, same_type, skip_sign, skip_word, syntax,
-};
+use no_read_rules::{Scope, Stop, a_type, is_kind, is_word, skip_sign, skip_word, syntax};
 use std::alloc::Global;
 
 /// How many brackets of types and constants may stand one in another.

@@ -4,7 +4,7 @@ ghost use Rattle.no_read_rules.specs.Scope.{Meaning, seen};
 ghost use Rattle.std.specs.Prelude.{true, false};
 ghost use Rattle.no_read_registers.specs.declared.locals.Locals.{Locals};
 ghost use Rattle.no_read_operations.specs.Operands.{to_type, comma_same};
-ghost use Rattle.no_read_operations.specs.Simple.{binary_flags, binary_parts, binary, cast_flags, cast_parts, cast_form, pred_word, pred_of, compare_parts, compare, freeze, select};
+ghost use Rattle.no_read_operations.specs.Simple.{binary_flags, binary_parts, binary, cast_flags, cast_parts, cast_form, pred_of, compare_parts, compare, freeze, select};
 
 use crate::operands::{
     Flags, an_operand, bit_operand, skip_flag_words, some_type, this_type, two_operands,
@@ -14,7 +14,8 @@ use no_ir::{BinOp, CastOp, Op, Operand, Pred, Ty};
 use no_lex::{Token, TokenKind};
 use no_read_constants::width_of;
 use no_read_registers::Locals;
-use no_read_rules::{Flaw, Scope, Stop, fault_at, is_kind, skip_sign, skip_word, spelled, syntax};
+use no_read_rules::{Scope, Stop, is_kind, skip_sign, skip_word, spelled, syntax};
+use no_words::pred_named;
 use std::alloc::Global;
 
 fn binary_flags(op: BinOp) -> Flags
@@ -105,33 +106,15 @@ pub fn cast_form<'b>(
     cast_parts(alloc, scope, locals, op, rest)
 }
 
-fn pred_word(word: &[u8]) -> Result<Pred, Flaw>
-    ensures { result ≡ pred_word word.now }
-{
-    match word {
-        b"eq" => Ok(Pred::Eq),
-        b"ne" => Ok(Pred::Ne),
-        b"ugt" => Ok(Pred::Ugt),
-        b"uge" => Ok(Pred::Uge),
-        b"ult" => Ok(Pred::Ult),
-        b"ule" => Ok(Pred::Ule),
-        b"sgt" => Ok(Pred::Sgt),
-        b"sge" => Ok(Pred::Sge),
-        b"slt" => Ok(Pred::Slt),
-        b"sle" => Ok(Pred::Sle),
-        _ => Err(Flaw::Syntax),
-    }
-}
-
 fn pred_of<'b>(text: &[u8], tokens: &'b [Token]) -> Result<(Pred, &'b [Token]), Stop>
     ensures { Gives (λ x. valued x.0 x.1.now) result ((plain (pred_of text.now)).read tt tokens.now) }
 {
     match tokens {
-        [token, rest @ ..] if is_kind(TokenKind::Word, token) => match pred_word(spelled(
+        [token, rest @ ..] if is_kind(TokenKind::Word, token) => match pred_named(spelled(
             text, token,
         )) {
-            Ok(pred) => Ok((pred, rest)),
-            Err(flaw) => Err(fault_at(flaw, tokens)),
+            Some(pred) => Ok((pred, rest)),
+            None => Err(syntax(tokens)),
         },
         _ => Err(syntax(tokens)),
     }

@@ -30,6 +30,7 @@ behind_name counter name = if is_digits name then next (reverse (stripped name))
 
 -- ---- labels that are numbers
 
+-- a number that was read and is not negative; a minus may stand before 0 alone
 abbrev pub in_range : Bool → Option ℕ → Bool
 in_range negative None = false
 in_range negative (Some n) = if negative then n == 0 else true

@@ -1,11 +1,12 @@
 ghost use Rattle.std.specs.Prelude.{◌≡◌, ◌+◌, ◌^◌, ◌-◌, ℕ, List, true, false, reverse, IfOk};
 ghost use Rattle.std.specs.List.{list_all};
-ghost use Rattle.no_lex.specs.Spelling.{is_digit, is_digits, is_integer};
+ghost use Rattle.no_lex.specs.Spelling.{is_digit, is_digits};
 ghost use Rattle.no_read_rules.specs.Numbers.{decimal, is_negative, digits_of};
 ghost use Rattle.no_read_registers.specs.Counting.{value, next, next_where, stripped, behind_name, in_range, label_fits};
 
 use no_ir::{Bytes, List, NoMemory};
-use no_read_rules::decimal;
+use no_lex::{is_digits, is_integer};
+use no_read_rules::{decimal, digits_of, is_negative};
 use std::alloc::Global;
 
 /// The digits of the number that is one more, the least first.
@@ -48,37 +49,6 @@ fn stripped(digits: &[u8]) -> &[u8]
     rest
 }
 
-fn is_digit(byte: u8) -> bool
-    ensures { result ≡ is_digit byte }
-{
-    byte >= b'0' && byte <= b'9'
-}
-
-fn all_digits(bytes: &[u8]) -> bool
-    ensures { result ≡ list_all is_digit bytes.now }
-{
-    bytes.iter().all(|byte| is_digit(*byte))
-}
-
-fn is_digits(bytes: &[u8]) -> bool
-    ensures { result ≡ is_digits bytes.now }
-{
-    match bytes {
-        [] => false,
-        _ => all_digits(bytes),
-    }
-}
-
-fn is_integer(bytes: &[u8]) -> bool
-    ensures { result ≡ is_integer bytes.now }
-{
-    match bytes {
-        [] => false,
-        [b'-', digits @ ..] => is_digits(digits),
-        _ => is_digits(bytes),
-    }
-}
-
 /// Moves the counter behind a name that is written at a definition.
 pub(crate) fn count(alloc: Global, counter: &mut Bytes, name: &[u8]) -> Result<(), NoMemory>
     ensures { IfOk result (λ _. counter.new ≡ behind_name counter.old name.now) }
@@ -88,21 +58,6 @@ pub(crate) fn count(alloc: Global, counter: &mut Bytes, name: &[u8]) -> Result<(
         *counter = next(alloc, digits.as_slice())?;
     }
     Ok(())
-}
-
-fn is_negative(bytes: &[u8]) -> bool
-    ensures { result ≡ is_negative bytes.now }
-{
-    matches!(bytes, [b'-', ..])
-}
-
-fn digits_of(bytes: &[u8]) -> &[u8]
-    ensures { result.now ≡ digits_of bytes.now }
-{
-    match bytes {
-        [b'-', digits @ ..] => digits,
-        _ => bytes,
-    }
 }
 
 fn in_range(negative: bool, number: Option<u64>) -> bool

@@ -18,12 +18,14 @@ module _ {S A : Type 0} where
     closes ← plain (closes_list text close)
     choose closes (done None) (item >>= λ a. done (Some a))
 
+  -- at least one item, and the closing sign
   unfoldable pub some_items : List ℕ → List ℕ → Rule S A → Rule S (List A)
   some_items text close item = do
     first ← item
     others ← repeat (more_item text close item)
     done (first ∷ others)
 
+  -- the closing sign alone
   unfoldable pub no_items : List ℕ → List ℕ → Rule S (List A)
   no_items text close = a_sign text close >>= λ _. done []
 

@@ -11,5 +11,6 @@ pub record Meaning : Type 0 where
   pub globals : List (List ℕ)
   pub functions : List (List ℕ)
 
+-- a scope as specifications see it
 abbrev pub seen : Scope → Meaning
 seen scope = record { text = scope.text.now; named = scope.named.now; types = scope.types.now; globals = scope.globals.now; functions = scope.functions.now }

@@ -24,22 +24,26 @@ kind_number CMark = 7
 kind_number Sign = 8
 kind_number Label = 9
 
+-- whether a token is of this kind
 abbrev pub is_kind : TokenKind → Token → Bool
 is_kind kind token = kind_number token.kind == kind_number kind
 
--- whether a token is this word, this sign
+-- whether a token is this word
 abbrev pub is_word : List ℕ → List ℕ → Token → Bool
 is_word text word token = is_kind Word token && bytes_eq (spelled text token) word
 
+-- whether a token is this sign
 abbrev pub is_sign : List ℕ → List ℕ → Token → Bool
 is_sign text sign token = is_kind Sign token && bytes_eq (spelled text token) sign
 
+-- a fault of syntax, unless this holds
 abbrev pub only_where : Bool → Result (Unit {0}) Flaw
 only_where holds = if holds then Ok tt else Err Syntax
 
--- one word, one sign
+-- one word
 abbrev pub a_word : {S : Type 0} → List ℕ → List ℕ → Rule S (Unit {0})
 a_word text word = plain (λ token. only_where (is_word text word token))
 
+-- one sign
 abbrev pub a_sign : {S : Type 0} → List ℕ → List ℕ → Rule S (Unit {0})
 a_sign text sign = plain (λ token. only_where (is_sign text sign token))

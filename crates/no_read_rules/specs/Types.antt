@@ -1,12 +1,11 @@
 -- Types (LLVM Language Reference, "Type System").
-use Rattle.std.specs.Prelude.{ℕ, suc, zero, Bool, true, false, ◌&&◌, List, [], ◌∷◌, ◌==◌, drop, position, bytes_eq, codes, Option, Some, None, Result, Ok, Err, if◌then◌else◌}
+use Rattle.std.specs.Prelude.{ℕ, suc, zero, true, false, List, [], ◌∷◌, drop, position, bytes_eq, codes, Option, Some, None, Result, Ok, Err, if◌then◌else◌}
 use Rattle.no_lex.specs.declared.token.Token.{Token}
 use Rattle.no_lex.specs.declared.token.TokenKind.{TokenKind}
 use Rattle.no_lex.specs.declared.token.TokenKind.TheVariants.{Word, Integer, Local, Sign}
-use Rattle.no_ir.specs.declared.types.Ty.{Ty, out-Ty}
-use Rattle.no_ir.specs.declared.types.Ty.TheOpen.{Ty-F}
-use Rattle.no_ir.specs.declared.types.Ty.TheFolds.{fold-Ty}
+use Rattle.no_ir.specs.declared.types.Ty.{Ty}
 use Rattle.no_ir.specs.declared.types.Ty.TheVariants as ty
+use Rattle.no_module.specs.SameTypes.{same_type}
 use Rattle.no_read_rules.specs.declared.fault.Flaw.{Flaw}
 use Rattle.no_read_rules.specs.declared.fault.Flaw.TheVariants.{Syntax, LeftOut}
 use Rattle.no_read_rules.specs.declared.types.TypeHead.{TypeHead}
@@ -20,6 +19,7 @@ use Rattle.no_read_rules.specs.Unescaped.{name_of}
 
 -- ---- what a token begins
 
+-- the type that a word is; `label` is one that is left out here
 abbrev pub word_type : List ℕ → Result TypeHead Flaw
 word_type word =
     if bytes_eq word (codes "i1") then Ok (head.Int 1)
@@ -31,6 +31,7 @@ word_type word =
     else (if bytes_eq word (codes "label") then Err LeftOut
     else Err Syntax))))))
 
+-- the brackets that a sign opens
 abbrev pub sign_type : List ℕ → Result TypeHead Flaw
 sign_type sign =
     if bytes_eq sign (codes "[") then Ok head.Array
@@ -38,6 +39,7 @@ sign_type sign =
     else (if bytes_eq sign (codes "<") then Ok head.Packed
     else Err Syntax))
 
+-- a named type, which has to have a number
 abbrev pub named_type : Option ℕ → Result TypeHead Flaw
 named_type (Some n) = Ok (head.Named n)
 named_type None = Err Syntax
@@ -46,12 +48,14 @@ named_type None = Err Syntax
 abbrev pub number_in : List (List ℕ) → List ℕ → Option ℕ
 number_in names spelling = position (bytes_eq (name_of (drop 1 spelling))) names
 
+-- what a token of this kind and spelling begins
 abbrev pub head_by : Meaning → TokenKind → List ℕ → Result TypeHead Flaw
 head_by m Word spelling = word_type spelling
 head_by m Sign spelling = sign_type spelling
 head_by m Local spelling = named_type (number_in m.named spelling)
 head_by m _ spelling = Err Syntax
 
+-- what the first token of a type begins
 abbrev pub type_head : Meaning → Token → Result TypeHead Flaw
 type_head m token = head_by m token.kind (spelled m.text token)
 
@@ -64,6 +68,7 @@ leaf_of head.Ptr = Ok ty.Ptr
 leaf_of (head.Named n) = Ok (ty.Named n)
 leaf_of _ = Err Syntax
 
+-- the count of an array
 abbrev pub count_token : List ℕ → Token → Result ℕ Flaw
 count_token text token = if is_kind Integer token then count_of (spelled text token) else Err Syntax
 
@@ -90,6 +95,7 @@ packed_parts m inner = do
   _ ← a_sign m.text (codes ">")
   done (ty.Struct true fields)
 
+-- what follows the first token of a type
 abbrev pub after_type_head : Meaning → Rule (Unit {0}) Ty → TypeHead → Rule (Unit {0}) Ty
 after_type_head m inner (head.Int w) = done (ty.Int w)
 after_type_head m inner head.Ptr = done ty.Ptr
@@ -102,54 +108,6 @@ after_type_head m inner head.Packed = packed_parts m inner
 unfoldable pub a_type : Meaning → ℕ → Rule (Unit {0}) Ty
 a_type m zero = checked (plain (type_head m)) leaf_of
 a_type m (suc depth) = plain (type_head m) >>= after_type_head m (a_type m depth)
-
--- ---- equal types
-
-abbrev pub array_in : ℕ → (Ty → Bool) → Ty-F Ty → Bool
-array_in n e (Ty-F.Array m f) = n == m && e f
-array_in n e _ = false
-
-abbrev pub pairs : List (Ty → Bool) → List Ty → Bool
-pairs [] [] = true
-pairs (f ∷ fs) (t ∷ ts) = f t && pairs fs ts
-pairs _ _ = false
-
-abbrev pub same_bit : Bool → Bool → Bool
-same_bit true b = b
-same_bit false true = false
-same_bit false false = true
-
-abbrev pub struct_in : Bool → List (Ty → Bool) → Ty-F Ty → Bool
-struct_in p fs (Ty-F.Struct q ts) = same_bit p q && pairs fs ts
-struct_in p fs _ = false
-
-abbrev pub int_in : ℕ → Ty-F Ty → Bool
-int_in w (Ty-F.Int v) = w == v
-int_in w _ = false
-
-abbrev pub named_in : ℕ → Ty-F Ty → Bool
-named_in n (Ty-F.Named m) = n == m
-named_in n _ = false
-
-abbrev pub ptr_in : Ty-F Ty → Bool
-ptr_in Ty-F.Ptr = true
-ptr_in _ = false
-
-abbrev pub void_in : Ty-F Ty → Bool
-void_in Ty-F.Void = true
-void_in _ = false
-
-abbrev pub same_step : Ty-F (Ty → Bool) → Ty → Bool
-same_step Ty-F.Void b = void_in (out-Ty b)
-same_step (Ty-F.Int w) b = int_in w (out-Ty b)
-same_step Ty-F.Ptr b = ptr_in (out-Ty b)
-same_step (Ty-F.Array n e) b = array_in n e (out-Ty b)
-same_step (Ty-F.Struct p fs) b = struct_in p fs (out-Ty b)
-same_step (Ty-F.Named n) b = named_in n (out-Ty b)
-
--- whether two types are the same
-abbrev pub same_type : Ty → Ty → Bool
-same_type = fold-Ty (Ty → Bool) same_step
 
 -- a type that has to be this one, or else a fault at its first token
 abbrev pub must_be : Ty → Ty → Result (Unit {0}) Flaw

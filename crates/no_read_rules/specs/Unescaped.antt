@@ -5,7 +5,7 @@ use Rattle.std.specs.Prelude.{ℕ, ◌+◌, ◌-◌, ◌*◌, Bool, false, ◌&&
 abbrev pub is_hex : ℕ → Bool
 is_hex b = (nat_le 48 b && nat_le b 57) || (nat_le 97 b && nat_le b 102) || (nat_le 65 b && nat_le b 70)
 
--- its value
+-- the value of a hexadecimal digit
 abbrev pub hex_value : ℕ → ℕ
 hex_value b = if nat_le b 57 then b - 48 else (if nat_le b 70 then b - 55 else b - 87)
 
@@ -30,6 +30,7 @@ unescaped (x ∷ y ∷ z ∷ rest) =
 abbrev pub inner : List ℕ → List ℕ
 inner bytes = take (length bytes - 2) (drop 1 bytes)
 
+-- whether a quote stands first
 abbrev pub is_quoted : List ℕ → Bool
 is_quoted [] = false
 is_quoted (b ∷ bytes) = b == 34

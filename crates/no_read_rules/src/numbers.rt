@@ -20,13 +20,15 @@ pub fn decimal(most: u64, digits: &[u8]) -> Option<u64>
     Some(sum)
 }
 
-fn is_negative(bytes: &[u8]) -> bool
+/// Whether bytes begin with a minus sign.
+pub fn is_negative(bytes: &[u8]) -> bool
     ensures { result ≡ is_negative bytes.now }
 {
     matches!(bytes, [b'-', ..])
 }
 
-fn digits_of(bytes: &[u8]) -> &[u8]
+/// What stands behind a minus sign, or all where there is none.
+pub fn digits_of(bytes: &[u8]) -> &[u8]
     ensures { result.now ≡ digits_of bytes.now }
 {
     match bytes {

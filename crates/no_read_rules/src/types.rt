@@ -5,7 +5,7 @@ ghost use Rattle.no_read_rules.specs.Lists.{more_item, some_items, items};
 ghost use Rattle.no_read_rules.specs.Repeated.{repeat_all, with_front};
 ghost use Rattle.no_read_rules.specs.Rules.{none, Good, Gives, valued, plain, checked};
 ghost use Rattle.no_read_rules.specs.Scope.{Meaning, seen};
-ghost use Rattle.no_read_rules.specs.Types.{word_type, sign_type, named_type, number_in, type_head, leaf_of, count_token, array_parts, struct_parts, packed_parts, a_type, same_type, pairs};
+ghost use Rattle.no_read_rules.specs.Types.{word_type, sign_type, named_type, number_in, type_head, leaf_of, count_token, array_parts, struct_parts, packed_parts, a_type};
 
 use crate::lists::closes_list;
 use crate::names::number_in;
@@ -283,39 +283,3 @@ pub fn types_are_exact()
 pub fn at_most_one_type()
     ensures { (m : Meaning) (depth : ℕ) (tokens : List Token) (a b : Ty) → (a_type m depth).means tt tokens a tt → (a_type m depth).means tt tokens b tt → a ≡ b }
 {}
-
-/// Whether two types are the same.
-#[cycle(same)]
-pub fn same_type(a: &Ty, b: &Ty) -> bool
-    ensures { result ≡ same_type a.now b.now }
-{
-    match a {
-        Ty::Void => matches!(b, Ty::Void),
-        Ty::Int(width) => matches!(b, Ty::Int(other) if width == other),
-        Ty::Ptr => matches!(b, Ty::Ptr),
-        Ty::Array(count, element) => match b {
-            Ty::Array(other, inner) => count == other && same_type(element.get(), inner.get()),
-            _ => false,
-        },
-        Ty::Struct(packed, fields) => match b {
-            Ty::Struct(other, inner) => packed == other
-                && same_fields(fields.as_slice(), inner.as_slice()),
-            _ => false,
-        },
-        Ty::Named(number) => matches!(b, Ty::Named(other) if number == other),
-    }
-}
-
-#[cycle(same)]
-fn same_fields(a: &[Ty], b: &[Ty]) -> bool
-    ensures { result ≡ pairs (map same_type a.now) b.now }
-{
-    let mut rest = b;
-    for field in a {
-        match rest {
-            [first, more @ ..] if same_type(field, first) => rest = more,
-            _ => return false,
-        }
-    }
-    rest.is_empty()
-}

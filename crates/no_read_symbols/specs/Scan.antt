@@ -14,6 +14,7 @@ use Rattle.no_read_symbols.specs.declared.symbols.Symbols.{Symbols}
 
 -- ---- brackets
 
+-- the bracket that a sign is
 abbrev pub sign_bracket : List ℕ → Bracket
 sign_bracket sign =
     if bytes_eq sign (codes "(") then OpenRound
@@ -24,12 +25,13 @@ sign_bracket sign =
     else (if bytes_eq sign (codes "]") then CloseSquare
     else Other)))))
 
--- the bracket that a token is, or a mark of metadata that stands alone
+-- the bracket that a token of this kind and spelling is, or a mark of metadata that stands alone
 abbrev pub bracket_by : TokenKind → List ℕ → Bracket
 bracket_by Sign spelling = sign_bracket spelling
 bracket_by Meta spelling = if bytes_eq spelling (codes "!") then Mark else Other
 bracket_by _ spelling = Other
 
+-- the bracket that a token is, or a mark of metadata that stands alone
 abbrev pub bracket_of : List ℕ → Token → Bracket
 bracket_of text token = bracket_by token.kind (spelled text token)
 
@@ -55,6 +57,7 @@ outside_after CloseSquare s = record s { depth = s.depth - 1; marked = false }
 outside_after Mark s = record s { marked = true }
 outside_after _ s = record s { marked = false }
 
+-- where a scan stands behind a bracket
 abbrev pub moved : Bracket → Standing → Standing
 moved bracket s =
     if nat_lt 0 s.rounds then record s { rounds = rounds_after bracket s.rounds }
@@ -67,6 +70,7 @@ moved bracket s =
 abbrev pub is_outer : Standing → Bool
 is_outer s = s.rounds == 0 && (s.braces == 0 && s.depth == 0)
 
+-- whether a token is the word `define` or `declare`
 abbrev pub begins_function : List ℕ → Token → Bool
 begins_function text token = is_word text (codes "define") token || is_word text (codes "declare") token
 
@@ -74,9 +78,11 @@ begins_function text token = is_word text (codes "define") token || is_word text
 abbrev pub awaited : List ℕ → Token → Bool → Bool
 awaited text token awaits = if is_kind Global token then false else (if begins_function text token then true else awaits)
 
+-- whether a function's name is awaited behind a token; inside brackets that does not change
 abbrev pub awaits_after : List ℕ → Token → Standing → Bool
 awaits_after text token s = if is_outer s then awaited text token s.awaits else s.awaits
 
+-- where a scan stands behind a token
 abbrev pub stands_after : List ℕ → Token → Standing → Standing
 stands_after text token s = record (moved (bracket_of text token) s) { awaits = awaits_after text token s }
 
@@ -86,14 +92,17 @@ with_symbol true equals name y = record y { functions = with_name y.functions na
 with_symbol false true name y = record y { globals = with_name y.globals name }
 with_symbol false false name y = y
 
+-- the names so far, with the one that this token defines, where it defines one
 abbrev pub named_after : List ℕ → Token → List Token → Standing → Symbols → Symbols
 named_after text token tokens s y =
     if is_outer s && is_kind Global token then with_symbol s.awaits (next_is (is_sign text (codes "=")) tokens) (name_of (drop 1 (spelled text token))) y else y
 
+-- the names so far, with those that these tokens define
 abbrev pub symbols_from : List ℕ → List Token → Standing → Symbols → Symbols
 symbols_from text [] s y = y
 symbols_from text (token ∷ tokens) s y = symbols_from text tokens (stands_after text token s) (named_after text token tokens s y)
 
+-- where a scan stands before the first token
 abbrev pub at_start : Standing
 at_start = record { rounds = 0; braces = 0; depth = 0; marked = false; awaits = false }
 

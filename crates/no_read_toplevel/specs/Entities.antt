@@ -52,6 +52,7 @@ a_target text = do
 
 -- ---- groups of attributes
 
+-- the name of a group of attributes, as its token
 abbrev pub group_of : List ℕ → Token → Result Token Flaw
 group_of text token = if is_kind Group token && not (is_record (spelled text token)) then Ok token else Err Syntax
 
@@ -71,9 +72,11 @@ a_group text role = do
 abbrev pub is_bare : List ℕ → Token → Bool
 is_bare text token = is_kind Meta token && bytes_eq (spelled text token) (codes "!")
 
+-- the sign of metadata alone, which has to stand here
 abbrev pub bare_of : List ℕ → Token → Result (Unit {0}) Flaw
 bare_of text token = if is_bare text token then Ok tt else Err Syntax
 
+-- whether a token is the word `distinct`
 abbrev pub is_distinct : List ℕ → Token → Bool
 is_distinct text token = is_word text (codes "distinct") token
 

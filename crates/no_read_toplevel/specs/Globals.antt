@@ -21,19 +21,17 @@ use Rattle.no_read_toplevel.specs.declared.globals.TailHead.TheVariants.{Align, 
 
 -- ---- names and words
 
--- linkage, visibility and calling conventions, which have no effect
-abbrev pub linkage_words : List (List ℕ)
-linkage_words =
-    codes "private" ∷ codes "internal" ∷ codes "common" ∷ codes "weak" ∷ codes "weak_odr" ∷ codes "linkonce" ∷ codes "linkonce_odr" ∷ codes "available_externally" ∷ []
+-- words for linkage, visibility, preemption, the importance of addresses, and calling conventions, which have no effect
+abbrev pub idle_words : List (List ℕ)
+idle_words =
+    codes "private" ∷ codes "internal" ∷ codes "common" ∷ codes "weak" ∷ codes "weak_odr" ∷ codes "linkonce" ∷ codes "linkonce_odr" ∷ codes "available_externally"
+    ∷ codes "dso_local" ∷ codes "default" ∷ codes "hidden" ∷ codes "protected" ∷ codes "unnamed_addr" ∷ codes "local_unnamed_addr" ∷ codes "ccc" ∷ codes "fastcc" ∷ codes "coldcc" ∷ []
 
-abbrev pub visibility_words : List (List ℕ)
-visibility_words =
-    codes "dso_local" ∷ codes "default" ∷ codes "hidden" ∷ codes "protected" ∷ codes "unnamed_addr" ∷ codes "local_unnamed_addr" ∷ codes "ccc" ∷ codes "fastcc" ∷ codes "coldcc" ∷ []
-
+-- whether a token is a word without an effect before a global
 abbrev pub is_idle : List ℕ → Token → Bool
-is_idle text token = is_kind Word token && (is_one linkage_words (spelled text token) || is_one visibility_words (spelled text token))
+is_idle text token = is_kind Word token && is_one idle_words (spelled text token)
 
--- whether it is a constant
+-- whether a global is a constant
 abbrev pub constant_of : List ℕ → Token → Result Bool Flaw
 constant_of text token = if is_word text (codes "constant") token then Ok true else (if is_word text (codes "global") token then Ok false else Err Syntax)
 
@@ -43,9 +41,11 @@ constant_of text token = if is_word text (codes "constant") token then Ok true e
 abbrev pub is_metadata : List ℕ → Token → Bool
 is_metadata text token = is_kind Meta token && (nat_lt 1 (length (spelled text token)) && not (is_node (spelled text token)))
 
+-- the name of an attachment or of a node, which has to stand here
 abbrev pub metadata_of : List ℕ → Token → Result (Unit {0}) Flaw
 metadata_of text token = if is_metadata text token then Ok tt else Err Syntax
 
+-- what stands behind a comma: `align`, `section`, or the name of an attachment
 abbrev pub tail_head : List ℕ → Token → Result TailHead Flaw
 tail_head text token =
     if is_word text (codes "align") token then Ok Align
@@ -53,12 +53,13 @@ tail_head text token =
     else (if is_metadata text token then Ok Attachment
     else Err Syntax))
 
--- an alignment is kept
+-- what follows `align`, `section` or the name of an attachment, of which an alignment is kept
 abbrev pub after_tail_head : List ℕ → TailHead → Rule (Unit {0}) (Option ℕ)
 after_tail_head text Align = plain (alignment_of text) >>= λ n. done (Some n)
 after_tail_head text Section = plain (string_of text) >>= λ _. done None
 after_tail_head text Attachment = plain (metadata_of text) >>= λ _. done None
 
+-- a comma, and an alignment, a section or an attachment
 unfoldable pub a_tail : List ℕ → Rule (Unit {0}) (Option ℕ)
 a_tail text = do
   _ ← a_sign text (codes ",")
@@ -66,12 +67,15 @@ a_tail text = do
   align ← after_tail_head text head
   done align
 
+-- whether a token is a comma
 abbrev pub is_comma : List ℕ → Token → Bool
 is_comma text token = is_sign text (codes ",") token
 
+-- one more of them, where a comma stands
 abbrev pub more_tail : List ℕ → Rule (Unit {0}) (Option (Option ℕ))
 more_tail text = more_where (is_comma text) (a_tail text)
 
+-- the second of two, where there is one, and else the first
 abbrev pub latest : Option ℕ → Option ℕ → Option ℕ
 latest found None = found
 latest found (Some n) = Some n
@@ -87,6 +91,7 @@ tails text = repeat (more_tail text) >>= λ all. done (last_of None all)
 
 -- ---- a global
 
+-- a global: its name, words without an effect, whether it is a constant, its type and initialiser, and what stands behind
 unfoldable pub a_global : Meaning → Rule (Unit {0}) GlobalVar
 a_global m = do
   name ← plain (symbol_name m.text)

@@ -26,6 +26,7 @@ abbrev pub latest : Option ℕ → Option ℕ → Option ℕ
 latest found None = found
 latest found (Some n) = Some n
 
+-- what is set, with what a group sets
 abbrev pub joined : Settings → Settings → Settings
 joined s g = record { bound = s.bound || g.bound; address = latest s.address g.address }
 
@@ -49,12 +50,14 @@ module _ (text : List ℕ) (groups : List ℕ → Settings) where
   with_mark s (mark.Address n) = record { bound = s.bound; address = Some n }
   with_mark s (mark.Group group) = joined s (groups (spelled text group))
 
+  -- what is set with these attributes of a function more, where groups are followed
   abbrev pub with_marks : Settings → List Mark → Settings
   with_marks s [] = s
   with_marks s (m ∷ marks) = with_marks (with_mark s m) marks
 
   -- ---- the module
 
+  -- a function with what its attributes set, where groups are followed
   abbrev pub function_of : Written → Function
   function_of w = set_function (with_marks nothing_set w.head.marks) w
 
@@ -64,6 +67,7 @@ module _ (text : List ℕ) (groups : List ℕ → Settings) where
   functions_in (top.Function w ∷ others) = function_of w ∷ functions_in others
   functions_in (_ ∷ others) = functions_in others
 
+-- the globals, in the order of the text
 abbrev pub globals_in : List Top → List GlobalVar
 globals_in [] = []
 globals_in (top.Global g ∷ others) = g ∷ globals_in others
@@ -93,6 +97,7 @@ pub record IsModuleOf (m : Meaning) (role : Role) (types : List (List ℕ × Ty)
   pub meant : (tops m role).means false tokens forms stated
   pub is : found ≡ module_of m.text types forms
 
+-- the module of the forms that were read
 abbrev pub with_module : List ℕ → List (List ℕ × Ty) → List Top × Bool → Result Module Stopped
 with_module text types x = Ok (module_of text types x.0)
 

@@ -22,6 +22,7 @@ use Rattle.no_read_functions.specs.Functions.{a_function}
 
 -- ---- what the first token begins
 
+-- the form that a word begins, where it begins one
 abbrev pub word_of : List ℕ → Option TopWord
 word_of word =
     if bytes_eq word (codes "source_filename") then Some begins.Source
@@ -31,16 +32,20 @@ word_of word =
     else (if bytes_eq word (codes "attributes") then Some begins.Attributes
     else None))))
 
+-- the form that a token begins by its word, where it begins one
 abbrev pub word_at : List ℕ → Token → Option TopWord
 word_at text token = if is_kind kind.Word token then word_of (spelled text token) else None
 
+-- a fault of syntax where no form begins
 abbrev pub or_syntax : Option TopWord → Result TopWord Flaw
 or_syntax (Some word) = Ok word
 or_syntax None = Err Syntax
 
+-- the form that a token begins by its word, which has to begin one
 abbrev pub top_word : List ℕ → Token → Result TopWord Flaw
 top_word text token = or_syntax (word_at text token)
 
+-- whether a form begins
 abbrev pub is_top_word : Option TopWord → Bool
 is_top_word (Some word) = true
 is_top_word None = false
@@ -51,16 +56,20 @@ begins_top text token = is_kind kind.Global token || (is_kind kind.Meta token ||
 
 -- ---- the forms; the state says whether a layout was stated
 
+-- the name of the source, which has no effect
 unfoldable pub source_top : Meaning → Rule Bool Top
 source_top m = lift (a_source m.text) >>= λ _. done top.Nothing
 
+-- the layout, where one is stated
 abbrev pub layout_top : Option (List ℕ) → Top
 layout_top None = top.Nothing
 layout_top (Some layout) = top.Layout layout
 
+-- a target: the layout, or a triple without an effect
 unfoldable pub target_top : Meaning → Rule Bool Top
 target_top m = a_target m.text >>= λ layout. done (layout_top layout)
 
+-- a function that is defined
 unfoldable pub function_top : Meaning → Role → Rule Bool Top
 function_top m role = lift (a_function m role) >>= λ f. done (top.Function f)
 
@@ -68,18 +77,23 @@ function_top m role = lift (a_function m role) >>= λ f. done (top.Function f)
 abbrev pub declared : Head × Locals → Written
 declared d = record { head = d.0; blocks = []; names = d.1 }
 
+-- a function that is declared
 unfoldable pub declared_top : Meaning → Role → Rule Bool Top
 declared_top m role = lift (a_declaration m role) >>= λ d. done (top.Function (declared d))
 
+-- a group of attributes
 unfoldable pub group_top : Meaning → Role → Rule Bool Top
 group_top m role = lift (a_group m.text role) >>= λ g. done (top.Group g.0 g.1)
 
+-- a global
 unfoldable pub global_top : Meaning → Rule Bool Top
 global_top m = lift (a_global m) >>= λ g. done (top.Global g)
 
+-- a node of metadata, which has no effect
 unfoldable pub node_top : Meaning → Rule Bool Top
 node_top m = lift (a_node m.text) >>= λ _. done top.Nothing
 
+-- what follows the first word of a form
 abbrev pub after_word : Meaning → Role → TopWord → Rule Bool Top
 after_word m role begins.Source = source_top m
 after_word m role begins.Target = target_top m
@@ -87,12 +101,15 @@ after_word m role begins.Define = function_top m role
 after_word m role begins.Declare = declared_top m role
 after_word m role begins.Attributes = group_top m role
 
+-- a form that begins with a word
 unfoldable pub worded : Meaning → Role → Rule Bool Top
 worded m role = plain (top_word m.text) >>= after_word m role
 
+-- one form: a global, metadata, or one that begins with a word
 unfoldable pub a_top : Meaning → Role → Rule Bool Top
 a_top m role = if_next (is_kind kind.Global) (global_top m) (if_next (is_kind kind.Meta) (node_top m) (worded m role))
 
+-- one more form, where one begins
 abbrev pub more_tops : Meaning → Role → Rule Bool (Option Top)
 more_tops m role = more_where (begins_top m.text) (a_top m role)
 

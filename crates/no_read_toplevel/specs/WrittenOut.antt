@@ -17,6 +17,7 @@ abbrev pub one_written : List ℕ → List Top → Mark → List Mark
 one_written text all (mark.Group group) = marks_named text (spelled text group) all
 one_written text all m = m ∷ []
 
+-- attributes in order, with each group written out
 abbrev pub written_out : List ℕ → List Top → List Mark → List Mark
 written_out text all [] = []
 written_out text all (m ∷ marks) = one_written text all m ++ written_out text all marks

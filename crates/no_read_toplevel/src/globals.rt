@@ -1,60 +1,53 @@
-ghost use Rattle.std.specs.Prelude.{ℕ, List, ◌≡◌, codes, bytes_eq};
+ghost use Rattle.std.specs.Prelude.{ℕ, List, ◌≡◌, codes};
 ghost use Rattle.no_lex.specs.declared.token.Token.{Token};
 ghost use Rattle.no_read_rules.specs.Rules.{Gives, valued, passed, plain, Good};
 ghost use Rattle.no_read_rules.specs.Scope.{Meaning, seen};
 ghost use Rattle.no_read_constants.specs.Skipped.{skip_while, behind};
 ghost use Rattle.no_read_attributes.specs.Words.{is_one, is_node};
-ghost use Rattle.no_read_toplevel.specs.Globals.{linkage_words, visibility_words, is_idle, constant_of, is_metadata, metadata_of, tail_head, after_tail_head, a_tail, is_comma, more_tail, latest, tails, a_global};
+ghost use Rattle.no_read_toplevel.specs.Globals.{idle_words, is_idle, constant_of, is_metadata, metadata_of, tail_head, after_tail_head, a_tail, is_comma, more_tail, latest, tails, a_global};
 ghost use Rattle.no_read_attributes.specs.Symbols.{symbol_name};
 
 use no_ir::GlobalVar;
 use no_lex::{Token, TokenKind};
-use no_read_attributes::{alignment, is_node, string, symbol_name};
+use no_read_attributes::{alignment, is_node, is_one, string, symbol_name};
 use no_read_constants::a_const;
 use no_read_rules::{
     Flaw, Scope, Stop, a_type, fault_at, is_kind, is_sign, is_word, skip_sign, spelled, syntax,
 };
 use std::alloc::Global;
 
-fn same(word: &[u8], other: &[u8]) -> bool
-    ensures { result ≡ bytes_eq word.now other.now }
-{
-    word == other
-}
+/// Linkage, visibility and calling conventions.
+const IDLE_WORDS: [&[u8]; 17] = [
+    b"private",
+    b"internal",
+    b"common",
+    b"weak",
+    b"weak_odr",
+    b"linkonce",
+    b"linkonce_odr",
+    b"available_externally",
+    b"dso_local",
+    b"default",
+    b"hidden",
+    b"protected",
+    b"unnamed_addr",
+    b"local_unnamed_addr",
+    b"ccc",
+    b"fastcc",
+    b"coldcc",
+];
 
-fn is_linkage(word: &[u8]) -> bool
-    ensures { result ≡ is_one linkage_words word.now }
+fn is_idle_word(word: &[u8]) -> bool
+    ensures { result ≡ is_one idle_words word.now }
 {
-    same(word, b"private")
-        || same(word, b"internal")
-        || same(word, b"common")
-        || same(word, b"weak")
-        || same(word, b"weak_odr")
-        || same(word, b"linkonce")
-        || same(word, b"linkonce_odr")
-        || same(word, b"available_externally")
-}
-
-fn is_visibility(word: &[u8]) -> bool
-    ensures { result ≡ is_one visibility_words word.now }
-{
-    same(word, b"dso_local")
-        || same(word, b"default")
-        || same(word, b"hidden")
-        || same(word, b"protected")
-        || same(word, b"unnamed_addr")
-        || same(word, b"local_unnamed_addr")
-        || same(word, b"ccc")
-        || same(word, b"fastcc")
-        || same(word, b"coldcc")
+    is_one(&IDLE_WORDS, word)
 }
 
 /// Whether a token is a word that has no effect.
 fn is_idle(text: &[u8], token: &Token) -> bool
     ensures { result ≡ is_idle text.now token.now }
 {
-    is_kind(TokenKind::Word, token)
-        && (is_linkage(spelled(text, token)) || is_visibility(spelled(text, token)))
+    is_kind(TokenKind::Word, token) && is_idle_word(spelled(text, token))
 }
 
 fn skip_idle<'b>(text: &[u8], tokens: &'b [Token]) -> &'b [Token]

@@ -8,10 +8,12 @@ use Rattle.no_read_types.specs.declared.definition.Definition.{Definition}
 
 -- ---- references
 
+-- lists as one list
 abbrev pub joined : List (List ℕ) → List ℕ
 joined [] = []
 joined (xs ∷ all) = xs ++ joined all
 
+-- what one form of a type refers to, where it is known what the types inside it refer to
 abbrev pub reference_step : Ty-F (List ℕ) → List ℕ
 reference_step Ty-F.Void = []
 reference_step (Ty-F.Int width) = []
@@ -30,10 +32,12 @@ graph_of defined = map (λ d. references d.ty) defined
 
 -- ---- graphs
 
+-- the references that are there, or none
 abbrev pub some_references : Option (List ℕ) → List ℕ
 some_references None = []
 some_references (Some all) = all
 
+-- the references of a definition; past the end there are none
 abbrev pub references_at : List (List ℕ) → ℕ → List ℕ
 references_at graph n = some_references (slice_get graph n)
 
@@ -46,6 +50,7 @@ abbrev pub IsPath : List (List ℕ) → ℕ → List ℕ → ℕ → Type 0
 IsPath graph a [] b = refers graph a b ≡ true
 IsPath graph a (c ∷ via) b = (refers graph a c ≡ true) × IsPath graph c via b
 
+-- there is a path of references from the one to the other
 abbrev pub Reaches : List (List ℕ) → ℕ → ℕ → Type 0
 Reaches graph a b = (via : List ℕ) × IsPath graph a via b
 
@@ -69,11 +74,12 @@ abbrev pub next_from : (ℕ → Bool) → ℕ → List (List ℕ) → Option ℕ
 next_from waits n [] = None
 next_from waits n (all ∷ graph) = if waits n && not (list_any waits all) then Some n else next_from waits (suc n) graph
 
--- the order of numbers, from those that are numbered already on, in at most so many steps
+-- the order with one more, where one is ready, and what follows it
 abbrev pub go_on : (List ℕ → List ℕ) → List ℕ → Option ℕ → List ℕ
 go_on more order None = order
 go_on more order (Some n) = more (order ++ n ∷ [])
 
+-- the order of numbers, from those that are numbered already on, in at most so many steps
 unfoldable pub order_from : List (List ℕ) → ℕ → List ℕ → List ℕ
 order_from graph zero order = order
 order_from graph (suc steps) order = go_on (order_from graph steps) order (next_from (is_open graph order) 0 graph)
@@ -82,24 +88,28 @@ order_from graph (suc steps) order = go_on (order_from graph steps) order (next_
 unfoldable pub order_of : List (List ℕ) → List ℕ
 order_of graph = order_from graph (length graph) []
 
--- the number of a definition, which is its place in the order; it keeps its own where it has none
+-- the place of a definition in the rest of an order, which begins at place k; it keeps its own where it has none
 abbrev pub number_from : ℕ → List ℕ → ℕ → ℕ
 number_from k [] n = n
 number_from k (m ∷ order) n = if nat_eq n m then k else number_from (suc k) order n
 
+-- the number of a definition, which is its place in the order; it keeps its own where it has none
 abbrev pub number_of : List ℕ → ℕ → ℕ
 number_of order n = number_from 0 order n
 
 -- ---- flags, one for each definition
 
+-- whether there is such a flag and it is set
 abbrev pub is_set : List Bool → ℕ → Bool
 is_set flags n = get_or flags n false
 
+-- how many flags are set
 abbrev pub count_set : List Bool → ℕ
 count_set [] = 0
 count_set (true ∷ flags) = suc (count_set flags)
 count_set (false ∷ flags) = count_set flags
 
+-- how many flags are not set
 abbrev pub count_clear : List Bool → ℕ
 count_clear [] = 0
 count_clear (true ∷ flags) = count_clear flags
@@ -109,11 +119,12 @@ count_clear (false ∷ flags) = suc (count_clear flags)
 abbrev pub is_clear : List Bool → ℕ → Bool
 is_clear flags n = not (get_or flags n true)
 
--- the flags once all of these are set, and those of them that weren't
+-- the flags once all of these are set
 abbrev pub marked : List Bool → List ℕ → List Bool
 marked flags [] = flags
 marked flags (n ∷ ns) = if is_clear flags n then marked (set flags n true) ns else marked flags ns
 
+-- those of these whose flags are there and weren't set, each once
 abbrev pub fresh : List Bool → List ℕ → List ℕ
 fresh flags [] = []
 fresh flags (n ∷ ns) = if is_clear flags n then n ∷ fresh (set flags n true) ns else fresh flags ns

@@ -19,7 +19,7 @@ use Rattle.no_read_types.specs.Lifting.{type_definitions}
 
 -- ---- types by number
 
--- a type whose references have other numbers
+-- one form of a type with other numbers, where the types inside it have them
 abbrev pub renumber_step : (ℕ → ℕ) → Ty-F Ty → Ty
 renumber_step number Ty-F.Void = ty.Void
 renumber_step number (Ty-F.Int width) = ty.Int width
@@ -28,6 +28,7 @@ renumber_step number (Ty-F.Array count element) = ty.Array count element
 renumber_step number (Ty-F.Struct packed fields) = ty.Struct packed fields
 renumber_step number (Ty-F.Named n) = ty.Named (number n)
 
+-- a type whose references have other numbers
 abbrev pub renumbered : (ℕ → ℕ) → Ty → Ty
 renumbered number = fold-Ty Ty (renumber_step number)
 
@@ -35,6 +36,7 @@ renumbered number = fold-Ty Ty (renumber_step number)
 abbrev pub number_in : List ℕ → ℕ → ℕ
 number_in numbers n = get_or numbers n n
 
+-- one or none, as a list
 abbrev pub as_list : {A : Type 0} → Option A → List A
 as_list None = []
 as_list (Some a) = a ∷ []
@@ -44,6 +46,7 @@ abbrev pub picked : List Definition → List ℕ → List Definition
 picked defined [] = []
 picked defined (n ∷ order) = as_list (slice_get defined n) ++ picked defined order
 
+-- the types of definitions, with other numbers in their references
 abbrev pub types_in : (ℕ → ℕ) → List Definition → List Ty
 types_in number defined = map (λ d. renumbered number d.ty) defined
 
@@ -71,6 +74,7 @@ pub record IsCircle (defined : List Definition) (f : Stopped) : Type 0 where
   pub first : IsFirstOnCircle (graph_of defined) circle
   pub is : f ≡ record { flaw = Circle; at = place_in defined circle }
 
+-- the names and types by number and the tokens that are left, or the fault of the first circle
 abbrev pub Arranges : Lifting → Result Lifted Stopped → Type 0
 Arranges l (Ok x) = IsNumbered l.defined x.named x.types × (x.rest ≡ l.kept)
 Arranges l (Err f) = IsCircle l.defined f
@@ -80,6 +84,7 @@ abbrev pub Follows : Result Lifting Stopped → Result Lifted Stopped → Type 0
 Follows (Ok l) answer = Arranges l answer
 Follows (Err f) answer = answer ≡ Err f
 
+-- what a text's type definitions give, or the first fault in them
 abbrev pub Lifts : List ℕ → List Token → Result Lifted Stopped → Type 0
 Lifts text tokens answer = Follows (type_definitions text tokens) answer
 

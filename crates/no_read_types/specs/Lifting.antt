@@ -29,20 +29,22 @@ begins_definition text (a ∷ []) = false
 begins_definition text (a ∷ b ∷ []) = false
 begins_definition text (a ∷ b ∷ c ∷ tokens) = is_kind Local a && (is_sign text (codes "=") b && is_word text (codes "type") c)
 
--- the place and the name of a definition, and the names with it; no name is defined twice
+-- the place and the name of a definition, and the names with it, where it has none yet: no name is defined twice
 abbrev pub added_name : List (List ℕ) → ℕ → List ℕ → Option ℕ → Result ((ℕ × List ℕ) × List (List ℕ)) Flaw
 added_name names at name None = Ok ((at, name), with_name names name)
 added_name names at name (Some n) = Err Syntax
 
+-- the name that a definition begins with, from its token
 abbrev pub new_name : List ℕ → List (List ℕ) → Token → Result ((ℕ × List ℕ) × List (List ℕ)) Flaw
 new_name text names token =
     if is_kind Local token then added_name names token.start (name_at text token) (position (bytes_eq (name_at text token)) names) else Err Syntax
 
--- a type that has to be a struct
+-- a type by its form, which has to be a struct
 abbrev pub struct_in : Ty → Ty-F Ty → Result Ty Flaw
 struct_in ty (Ty-F.Struct packed fields) = Ok ty
 struct_in ty _ = Err Syntax
 
+-- a type that has to be a struct
 abbrev pub a_struct : Ty → Result Ty Flaw
 a_struct ty = struct_in ty (out-Ty ty)
 
@@ -85,16 +87,19 @@ ArePieces m names tokens [] = tokens ≡ []
 ArePieces m names tokens (Kept token ∷ pieces) = IsKept m.text (λ back. ArePieces m names back pieces) tokens token
 ArePieces m names tokens (Defined lifted ∷ pieces) = IsDefined m (λ between back. ArePieces m between back pieces) names tokens lifted
 
--- the definitions in the order of the text, and the tokens without them
+-- no definition and no token
 abbrev pub nothing_lifted : Lifting
 nothing_lifted = record { defined = []; kept = [] }
 
+-- a definition in front of what follows it
 abbrev pub with_definition : Definition → Lifting → Lifting
 with_definition lifted l = record { defined = lifted ∷ l.defined; kept = l.kept }
 
+-- a token in front of what follows it
 abbrev pub with_token : Token → Lifting → Lifting
 with_token token l = record { defined = l.defined; kept = token ∷ l.kept }
 
+-- the definitions in the order of the text, and the tokens without them
 abbrev pub lifting_of : List Piece → Lifting
 lifting_of [] = nothing_lifted
 lifting_of (Kept token ∷ pieces) = with_token token (lifting_of pieces)
@@ -104,16 +109,18 @@ lifting_of (Defined lifted ∷ pieces) = with_definition lifted (lifting_of piec
 abbrev pub Parted : Meaning → List (List ℕ) → List Token → Lifting → Type 0
 Parted m names tokens l = (pieces : List Piece) × ArePieces m names tokens pieces × (l ≡ lifting_of pieces)
 
--- reading the pieces from the front, each of at least a token
+-- reading one piece from the front, and those that follow
 abbrev pub lift_step : Meaning → (List (List ℕ) → List Token → Result Lifting Stopped) → Bool → List (List ℕ) → Token → List Token → Result Lifting Stopped
 lift_step m more true names token tokens = after ((a_definition m).read names (token ∷ tokens)) (λ x. after (more x.1 x.2) (λ l. Ok (with_definition x.0 l)))
 lift_step m more false names token tokens = after (more names tokens) (λ l. Ok (with_token token l))
 
+-- reading the pieces from the front, in at most so many steps
 unfoldable pub lift_read : ℕ → Meaning → List (List ℕ) → List Token → Result Lifting Stopped
 lift_read n m names [] = Ok nothing_lifted
 lift_read zero m names (token ∷ tokens) = Err (fault Syntax (token ∷ tokens))
 lift_read (suc n) m names (token ∷ tokens) = lift_step m (lift_read n m) (begins_definition m.text (token ∷ tokens)) names token tokens
 
+-- reading the pieces from the front, each of at least a token
 unfoldable pub lift_all : Meaning → List (List ℕ) → List Token → Result Lifting Stopped
 lift_all m names tokens = lift_read (length tokens) m names tokens
 

@@ -16,12 +16,13 @@ pub record IsQueue (graph : List (List ℕ)) (waits : List Bool) (ready : ℕ �
   pub sound : (n : ℕ) → ready n ≡ true → (is_set waits n ≡ true) × (find (is_set waits) (references_at graph n) ≡ None)
   pub queued : (n : ℕ) → is_set waits n ≡ true → (list_any (nat_eq n) left ≡ true) ⊎ IsQueued ready watchers n (find (is_set waits) (references_at graph n))
 
--- the least of a set, and the set without it; or none, where the set is empty
+-- the least of a set, and the set without it
 pub record IsLeast (old new : ℕ → Bool) (n : ℕ) : Type 0 where
   pub member : old n ≡ true
   pub least : (m : ℕ) → old m ≡ true → n ≤ m
   pub rest : (m : ℕ) → new m ≡ (old m && not (nat_eq m n))
 
+-- the least of a set, and the set without it; or none, where the set is empty
 abbrev pub TakesLeast : (old new : ℕ → Bool) → Option ℕ → Type 0
 TakesLeast old new None = (m : ℕ) → (old m ≡ false) × (new m ≡ old m)
 TakesLeast old new (Some n) = IsLeast old new n

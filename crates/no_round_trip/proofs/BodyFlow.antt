@@ -20,7 +20,8 @@ use Rattle.no_read_constants.specs.Places.{width_of, number_by, number_at}
 use Rattle.no_read_registers.specs.declared.locals.Locals.{Locals}
 use Rattle.no_read_operations.specs.Ends.{finish}
 use Rattle.no_read_operations.specs.Flow.{return_void, return_value, ret, branch, branch_if, br, same_width, a_case, no_case, one_case, more_case, switch, a_pair, phi}
-use Rattle.no_print.specs.Names.{name_at, local_name, int_type, number, truth, signed}
+use Rattle.no_eval.specs.Numbers.{signed}
+use Rattle.no_print.specs.Names.{name_at, local_name, int_type, number, truth}
 use Rattle.no_print.specs.Pieces.{Piece, spaced, glued, comma, word, sign, piece, behind_commas}
 use Rattle.no_print.specs.Constants.{type_at}
 use Rattle.no_print.specs.Instructions.{inserted_pieces, operand_pieces, label, pair_pieces, case_pieces, op_pieces}

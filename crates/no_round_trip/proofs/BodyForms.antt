@@ -1,5 +1,5 @@
 -- Operations on values are read again behind their words.
-use Rattle.std.proofs.Common.{◌≡◌, ℕ, Bool, false, ◌||◌, ◌==◌, List, [], ◌∷◌, ◌++◌, bytes_eq, codes, decimal, Result, Ok, Err, if◌then◌else◌, refl, sym, ap, subst, ◌∙◌, append_assoc}
+use Rattle.std.proofs.Common.{◌≡◌, ℕ, Bool, false, ◌||◌, ◌==◌, List, [], ◌∷◌, ◌++◌, bytes_eq, codes, decimal, Result, Ok, Err, ok_or, if◌then◌else◌, refl, sym, ap, subst, ◌∙◌, append_assoc}
 use Rattle.std.specs.Fmt.{digits}
 use Rattle.no_lex.specs.declared.token.Token.{Token}
 use Rattle.no_lex.specs.declared.token.TokenKind.{TokenKind}
@@ -13,6 +13,7 @@ use Rattle.no_ir.specs.declared.instruction.Pred.{Pred}
 use Rattle.no_ir.specs.declared.instruction.Pred.TheVariants as pred
 use Rattle.no_ir.specs.declared.instruction.Operand.{Operand}
 use Rattle.no_ir.specs.declared.instruction.Op.{Op}
+use Rattle.no_words.specs.Words.{pred_named}
 use Rattle.no_read_rules.specs.declared.fault.Flaw.{Flaw}
 use Rattle.no_read_rules.specs.declared.fault.Flaw.TheVariants.{Syntax}
 use Rattle.no_read_rules.specs.Rules.{Rule, plain}
@@ -24,7 +25,6 @@ use Rattle.no_read_operations.specs.declared.operands.Flags.TheVariants as flags
 use Rattle.no_read_operations.specs.Operands.{some_type, is_flag_word}
 use Rattle.no_read_operations.specs.Ends.{ended}
 use Rattle.no_read_operations.specs.Simple.{binary_flags, binary_parts, binary, cast_flags, cast_parts, cast_form, pred_of, compare_parts, compare, freeze, select}
-use Rattle.no_read_operations.specs.Simple as simple
 use Rattle.no_print.specs.Names.{int_type}
 use Rattle.no_print.specs.Pieces.{Piece, spaced, glued, comma, word}
 use Rattle.no_print.specs.Constants.{type_at}
@@ -179,9 +179,9 @@ module _ (m : Meaning) (text : List ℕ) (bytes : AreBytes m.text) (fit : TypesF
   -- ---- comparisons
 
   abbrev pred_by : TokenKind → List ℕ → Result Pred Flaw
-  pred_by k spelling = if kind_number k == kind_number kind.Word then simple.pred_word spelling else Err Syntax
+  pred_by k spelling = if kind_number k == kind_number kind.Word then ok_or (pred_named spelling) Syntax else Err Syntax
 
-  pred_again : (p : Pred) → simple.pred_word (pred_word p) ≡ Ok p
+  pred_again : (p : Pred) → ok_or (pred_named (pred_word p)) Syntax ≡ Ok p
   pred_again pred.Eq = refl
   pred_again pred.Ne = refl
   pred_again pred.Ugt = refl

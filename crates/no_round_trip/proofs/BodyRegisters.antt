@@ -20,7 +20,7 @@ use Rattle.no_round_trip.specs.Spells.{AreBytes}
 use Rattle.no_round_trip.proofs.WordBytes.{bytes_name, bytes_spelled}
 use Rattle.no_round_trip.proofs.RuleFound.{bytes_take, bytes_drop}
 use Rattle.no_round_trip.proofs.RuleFrame.{one_spells}
-use Rattle.no_round_trip.proofs.WordNames.{name_again, string_again}
+use Rattle.no_names.proofs.Again.{name_again, string_again}
 use Rattle.no_round_trip.proofs.RuleOpening.{from_fine}
 use Rattle.no_round_trip.specs.States.{IsFine}
 use Rattle.no_round_trip.proofs.BodyReturning.{Returns}

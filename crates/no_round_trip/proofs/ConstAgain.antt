@@ -24,7 +24,8 @@ use Rattle.no_read_constants.specs.declared.constants.LeafHead.{LeafHead}
 use Rattle.no_read_constants.specs.declared.constants.LeafHead.TheVariants as leaf
 use Rattle.no_read_constants.specs.declared.constants.ConstHead.{ConstHead}
 use Rattle.no_read_constants.specs.declared.constants.ConstHead.TheVariants as head
-use Rattle.no_print.specs.Names.{quoted, string, signed, number, int_type}
+use Rattle.no_eval.specs.Numbers.{signed}
+use Rattle.no_print.specs.Names.{quoted, string, number, int_type}
 use Rattle.no_print.specs.Pieces.{Piece, glued, spaced, word, sign, integer, comma, behind_commas, with_commas}
 use Rattle.no_print.specs.Types.{type_pieces, in_braces}
 use Rattle.no_print.specs.Constants.{place_pieces, int_as_address, address_as_int, typed, const_pieces}
@@ -37,7 +38,7 @@ use Rattle.no_round_trip.proofs.ConstPieces.{zero_is, int_is, text_is, array_is,
 use Rattle.no_round_trip.proofs.RuleFrame.{plain_spells, done_spells, then_spells, made_spells, yes_spells, no_spells}
 use Rattle.no_round_trip.proofs.RuleItems.{some_none, some_some, items_again}
 use Rattle.no_round_trip.proofs.RuleListing.{IsClose, word_spells, sign_spells, closes, goes_on}
-use Rattle.no_round_trip.proofs.WordNames.{string_again}
+use Rattle.no_names.proofs.Again.{string_again}
 use Rattle.no_round_trip.proofs.WordNumbers.{integer_again}
 use Rattle.no_round_trip.proofs.RuleOpening.{Opens, begins_by, begins_alone, kept_value, then_opens, checked_opens}
 use Rattle.no_round_trip.proofs.ConstPlaces.{number_small, width_small, width_spells, place_again}

@@ -17,7 +17,8 @@ use Rattle.no_read_constants.specs.declared.constants.LeafHead.{LeafHead}
 use Rattle.no_read_constants.specs.declared.constants.LeafHead.TheVariants as leaf
 use Rattle.no_read_constants.specs.declared.constants.ConstHead.TheVariants as head
 use Rattle.no_print.specs.Pieces.{Piece, piece, word}
-use Rattle.no_print.specs.Names.{signed, truth, number}
+use Rattle.no_eval.specs.Numbers.{signed}
+use Rattle.no_print.specs.Names.{truth, number}
 use Rattle.no_print.specs.Constants.{zero_in, width_in}
 use Rattle.no_round_trip.specs.Spells.{Spells, WidthFits}
 use Rattle.no_round_trip.proofs.RuleFrame.{plain_spells}

@@ -22,10 +22,11 @@ use Rattle.no_read_rules.specs.Scope.{Meaning}
 use Rattle.no_read_rules.specs.Spelled.{spelled, kind_number, is_kind, is_word}
 use Rattle.no_read_rules.specs.Types.{a_type, word_type}
 use Rattle.no_read_rules.specs.Unescaped.{name_of}
-use Rattle.no_read_constants.specs.Places.{or_global, symbol_named, symbol_of, int_width, width_of, truth_at, number_by, number_at, with_sign, is_flag, an_index, indices, gep_parts, bare_or, place_head, after_place_head, a_place}
+use Rattle.no_read_constants.specs.Places.{or_global, symbol_named, symbol_of, int_width, width_of, truth_at, number_by, number_at, is_flag, an_index, indices, gep_parts, bare_or, place_head, after_place_head, a_place}
 use Rattle.no_read_constants.specs.declared.places.PlaceHead.{PlaceHead}
 use Rattle.no_read_constants.specs.declared.places.PlaceHead.TheVariants.{Bare, Gep}
-use Rattle.no_print.specs.Names.{spelling, global_name, int_type, signed}
+use Rattle.no_eval.specs.Numbers.{signed}
+use Rattle.no_print.specs.Names.{spelling, global_name, int_type}
 use Rattle.no_print.specs.Pieces.{Piece, glued, spaced, word, sign, integer, comma, behind_commas}
 use Rattle.no_print.specs.Types.{type_pieces}
 use Rattle.no_print.specs.Constants.{index_width, index_pieces, symbol_name, place_pieces}
@@ -35,7 +36,7 @@ use Rattle.no_round_trip.proofs.RuleFound.{name_there, bytes_drop}
 use Rattle.no_round_trip.proofs.RuleFrame.{plain_spells, done_spells, then_spells, made_spells}
 use Rattle.no_round_trip.proofs.RuleItems.{repeated_again}
 use Rattle.no_round_trip.proofs.RuleListing.{EachSpells, IsClose, word_spells, sign_spells, behind_spells}
-use Rattle.no_round_trip.proofs.WordNames.{name_again}
+use Rattle.no_names.proofs.Again.{name_again}
 use Rattle.no_round_trip.proofs.WordNumbers.{IndexAgain, index_again}
 use Rattle.no_round_trip.proofs.RuleOpening.{kept_value}
 use Rattle.no_round_trip.proofs.RuleSkipping as skipping
@@ -126,9 +127,9 @@ index_spells : (m : Meaning) (text : List ℕ) (i : ℤ) → IndexAgain i → Sp
 unfolding an_index
 index_spells m text i x =
     let number = plain_spells {S = Unit {0}} text (number_by (index_width i)) tt (record { gap = spaced; kind = kind.Integer; bytes = signed_decimal i }) x.number (subst (λ w. integer_at w (signed_decimal i) ≡ Ok x.number) x.written x.reads) in
-    let made = then_spells text (plain (number_at text (index_width i))) (λ n. done (with_sign (index_width i) n)) tt tt tt (integer spaced (signed_decimal i)) [] x.number i number
-    (subst (λ j. Spells {S = Unit {0}} text (done (with_sign (index_width i) x.number)) tt [] j tt) (subst (λ w. signed w x.number ≡ i) x.written x.is) (done_spells text tt (with_sign (index_width i) x.number))) in
-    then_spells text (plain (width_of text)) (λ w. plain (number_at text w) >>= λ n. done (with_sign w n)) tt tt tt (int_type spaced (index_width i)) (integer spaced (signed_decimal i)) (index_width i) i
+    let made = then_spells text (plain (number_at text (index_width i))) (λ n. done (signed (index_width i) n)) tt tt tt (integer spaced (signed_decimal i)) [] x.number i number
+    (subst (λ j. Spells {S = Unit {0}} text (done (signed (index_width i) x.number)) tt [] j tt) (subst (λ w. signed w x.number ≡ i) x.written x.is) (done_spells text tt (signed (index_width i) x.number))) in
+    then_spells text (plain (width_of text)) (λ w. plain (number_at text w) >>= λ n. done (signed w n)) tt tt tt (int_type spaced (index_width i)) (integer spaced (signed_decimal i)) (index_width i) i
     (width_spells text spaced (index_width i) (index_width_of i x)) made
 
 index_read : (m : Meaning) (tokens : List Token) (i : ℤ) → (an_index m).means tt tokens i tt → IndexAgain i

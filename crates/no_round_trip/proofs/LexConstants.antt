@@ -10,7 +10,8 @@ use Rattle.no_ir.specs.declared.constant.Const.TheFolds.{fold-roll-Const, ind-Co
 use Rattle.no_ir.specs.declared.constant.Place.{Place}
 use Rattle.no_lex.specs.declared.token.TokenKind.TheVariants as kind
 use Rattle.no_print.specs.Pieces.{Piece, glued, spaced, piece, sign, word, integer, behind_commas, with_commas}
-use Rattle.no_print.specs.Names.{global_name, int_type, string, signed}
+use Rattle.no_eval.specs.Numbers.{signed}
+use Rattle.no_print.specs.Names.{global_name, int_type, string}
 use Rattle.no_print.specs.Constants.{Spelled, index_width, index_pieces, zero_in, width_in, element_in, fields_in, int_as_address, type_at, symbol_name, gep_place, place_by, place_pieces, resolved, member, typed, array_const, struct_const, address_as_int, const_step, const_pieces}
 use Rattle.no_round_trip.proofs.LexForms.{IsForm, AllAre, IsApart, all_are, alone, apart_then, behind, behind_space, braces_form, comma_then, commas_apart, fits_then, forms_form, integer_form, list_form, sign_apart, sign_then, then_form, word_form, word_then}
 use Rattle.no_round_trip.proofs.LexSpellings.{signed_kind}

@@ -6,7 +6,8 @@ use Rattle.no_ir.specs.declared.types.Ty.TheOpen.{Ty-F}
 use Rattle.no_ir.specs.declared.types.Ty.TheFolds.{fold-roll-Ty, ind-Ty, map-Ty}
 use Rattle.no_lex.specs.declared.token.TokenKind.TheVariants as kind
 use Rattle.no_print.specs.Pieces.{Piece, glued, spaced, sign, word, integer}
-use Rattle.no_print.specs.Names.{global_name, local_name, label_line, string, spelling, label_spelling, quoted, name_at, int_type, number, truth, signed}
+use Rattle.no_eval.specs.Numbers.{signed}
+use Rattle.no_print.specs.Names.{global_name, local_name, label_line, string, spelling, label_spelling, quoted, name_at, int_type, number, truth}
 use Rattle.no_print.specs.Types.{in_braces, fields_with, struct_pieces, array_pieces, type_step, type_pieces}
 use Rattle.no_round_trip.proofs.LexForms.{IsForm, AllAre, alone, behind_space, braces_form, forms_form, integer_form, piece_form, sign_apart, sign_then, word_form, word_then, then_form, fits_then}
 use Rattle.no_round_trip.proofs.LexSpellings.{decimal_kind, global_kind, int_kind, label_is, local_kind, quoted_kind, signed_kind}

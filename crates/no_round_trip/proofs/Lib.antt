@@ -65,6 +65,5 @@ pub mod TypeHeads
 pub mod TypePieces
 pub mod TypeSame
 pub mod WordBytes
-pub mod WordNames
 pub mod WordNumbers
 pub mod WordWidths

@@ -29,7 +29,7 @@ use Rattle.no_print.specs.Pieces as pieces
 use Rattle.no_print.specs.Stand.{Stand}
 use Rattle.no_print.specs.Types.{type_pieces}
 use Rattle.no_round_trip.specs.Spells.{AreBytes, over}
-use Rattle.no_round_trip.proofs.WordNames.{name_again}
+use Rattle.no_names.proofs.Again.{name_again}
 use Rattle.no_round_trip.proofs.RuleStanding.{stand_parts, piece_is_kind, kind_tested, word_tested, sign_tested}
 use Rattle.no_round_trip.proofs.TypeAgain.{type_again}
 use Rattle.no_round_trip.specs.Rest.{forms_in, rest_pieces}

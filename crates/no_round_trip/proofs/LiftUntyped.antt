@@ -32,7 +32,8 @@ use Rattle.no_read_types.specs.Lifting.{begins_definition}
 use Rattle.no_print.specs.Constants.{Spelled, zero_in, width_in, element_in, fields_in, int_as_address, index_pieces, gep_place, place_by, place_pieces, resolved, typed, member, array_const, struct_const, address_as_int, const_step, const_pieces}
 use Rattle.no_print.specs.Instructions.{Locals, binary_word, cast_word, pred_word, volatile_word, alignment_pieces, inserted_pieces, operand_pieces, pair_pieces, count_pieces, argument_pieces, case_pieces, op_pieces, with_result, instr_pieces}
 use Rattle.no_print.specs.Modules.{kind_word, global_pieces, bound_pieces, address_pieces, attributes, head_pieces, type_alone, declared_pieces, param_pieces, instrs_pieces, blocks_pieces, locals_of, defined_pieces, function_by, function_pieces, has_inserted, node_pieces, each}
-use Rattle.no_print.specs.Names.{truth, number, signed}
+use Rattle.no_eval.specs.Numbers.{signed}
+use Rattle.no_print.specs.Names.{truth, number}
 use Rattle.no_print.specs.Pieces.{Piece, glued, spaced, indented, word, integer, behind_commas, with_commas}
 use Rattle.no_print.specs.Stand.{Stand}
 use Rattle.no_print.specs.Types.{in_braces, fields_with, struct_pieces, type_step, type_pieces}

@@ -23,7 +23,7 @@ use Rattle.no_print.specs.Pieces.{Piece, glued, spaced, lined, piece, word, sign
 use Rattle.no_round_trip.specs.Spells.{AreBytes, Spells, over}
 use Rattle.no_round_trip.proofs.RuleFrame.{plain_spells, done_spells, then_spells, made_spells, lift_spells, yes_spells, no_spells}
 use Rattle.no_round_trip.proofs.RuleListing.{sign_spells}
-use Rattle.no_round_trip.proofs.WordNames.{string_again}
+use Rattle.no_names.proofs.Again.{string_again}
 use Rattle.no_round_trip.proofs.RuleStanding.{Heads, Tests, begins_none, stand_one}
 use Rattle.no_round_trip.proofs.RuleStanding as standing
 use Rattle.no_round_trip.proofs.TopSteps.{tested, sign_then}

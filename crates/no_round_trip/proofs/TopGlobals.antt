@@ -14,7 +14,7 @@ use Rattle.no_read_rules.specs.Types.{a_type}
 use Rattle.no_read_constants.specs.Constants.{a_const}
 use Rattle.no_read_constants.specs.Skipped.{behind}
 use Rattle.no_read_attributes.specs.Words.{is_one}
-use Rattle.no_read_toplevel.specs.Globals.{linkage_words, visibility_words, is_idle, constant_of, tails, a_global}
+use Rattle.no_read_toplevel.specs.Globals.{idle_words, is_idle, constant_of, tails, a_global}
 use Rattle.no_read_attributes.specs.Symbols.{symbol_name}
 use Rattle.no_print.specs.Constants.{Spelled, type_at, const_pieces}
 use Rattle.no_print.specs.Instructions.{alignment_pieces}
@@ -31,7 +31,7 @@ use Rattle.no_round_trip.proofs.TopTails.{tails_again}
 
 module _ (text : List ℕ) where
   abbrev idle_by : TokenKind → List ℕ → Bool
-  idle_by k bytes = (kind_number k == kind_number kind.Word) && (is_one linkage_words bytes || is_one visibility_words bytes)
+  idle_by k bytes = (kind_number k == kind_number kind.Word) && is_one idle_words bytes
 
   abbrev constant_by : TokenKind → List ℕ → Result Bool Flaw
   constant_by k bytes =

@@ -21,7 +21,7 @@ use Rattle.no_print.specs.Pieces.{glued, spaced}
 use Rattle.no_print.specs.Stand.{IsPiece, Stand}
 use Rattle.no_round_trip.specs.Spells.{Spells}
 use Rattle.no_round_trip.proofs.RuleListing.{sign_spells}
-use Rattle.no_round_trip.proofs.WordNames.{string_again}
+use Rattle.no_names.proofs.Again.{string_again}
 use Rattle.no_round_trip.proofs.RuleStanding.{stand_none}
 use Rattle.no_round_trip.proofs.TopAmounts.{address_most, address_again, decimal_bytes}
 use Rattle.no_round_trip.proofs.TopSteps.{tested}

@@ -17,7 +17,7 @@ use Rattle.no_round_trip.proofs.WordBytes.{bytes_name, bytes_spelled}
 use Rattle.no_round_trip.proofs.RuleFound.{bytes_drop}
 use Rattle.no_round_trip.proofs.RuleFrame.{plain_spells, then_spells}
 use Rattle.no_round_trip.proofs.RuleListing.{word_spells, sign_spells}
-use Rattle.no_round_trip.proofs.WordNames.{name_again}
+use Rattle.no_names.proofs.Again.{name_again}
 use Rattle.no_round_trip.proofs.RuleOpening.{from_fine, kept_value}
 
 -- a rule without a state, which is spelled for the other rule where it was read

@@ -22,7 +22,7 @@ use Rattle.no_round_trip.specs.Spells.{AreBytes, Spells, over}
 use Rattle.no_round_trip.proofs.WordBytes.{bytes_name, bytes_spelled}
 use Rattle.no_round_trip.proofs.RuleFound.{name_there, bytes_drop}
 use Rattle.no_round_trip.proofs.RuleFrame.{plain_spells}
-use Rattle.no_round_trip.proofs.WordNames.{name_again}
+use Rattle.no_names.proofs.Again.{name_again}
 use Rattle.no_round_trip.proofs.WordNumbers.{count_again}
 use Rattle.no_round_trip.proofs.WordWidths.{IsWidth, WordHead, word_head}
 

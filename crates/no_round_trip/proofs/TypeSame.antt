@@ -6,7 +6,8 @@ use Rattle.no_ir.specs.declared.types.Ty.TheOpen.{Ty-F}
 use Rattle.no_ir.specs.declared.types.Ty.TheFolds.{ind-Ty, fold-roll-Ty, map-Ty}
 use Rattle.no_ir.specs.declared.types.Ty.TheViews.{roll-out-Ty}
 use Rattle.no_read_rules.specs.declared.fault.Flaw.{Flaw}
-use Rattle.no_read_rules.specs.Types.{same_type, same_step, pairs, same_bit, must_be}
+use Rattle.no_module.specs.SameTypes.{same_type, same_step, pairs, same_bit}
+use Rattle.no_read_rules.specs.Types.{must_be}
 use Rattle.std.specs.Prelude.{Result, Ok, Err}
 use Rattle.no_read_rules.specs.declared.fault.Flaw.TheVariants.{Syntax}
 

@@ -9,7 +9,8 @@ use Rattle.std.proofs.lemmas.Str.{digit_value_digit}
 use Rattle.std.proofs.lemmas.Str.Parse.{digit_from_value}
 use Rattle.no_read_rules.specs.Numbers.{number_from, is_negative, digits_of, kept, integer_at, counted, count_of}
 use Rattle.no_read_rules.specs.Numbers as numbers
-use Rattle.no_print.specs.Names.{signed, fits_i32}
+use Rattle.no_eval.specs.Numbers.{signed}
+use Rattle.no_print.specs.Names.{fits_i32}
 
 -- ---- digits
 

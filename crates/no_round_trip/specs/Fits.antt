@@ -45,6 +45,7 @@ abbrev pub begin_apart : List Piece → Bool
 begin_apart [] = true
 begin_apart (p ∷ pieces) = not (bytes_eq p.gap []) || is_parting p.kind p.bytes
 
+-- a token is a string
 abbrev pub is_quoted : TokenKind → Bool
 is_quoted kind.Quoted = true
 is_quoted kind = false

@@ -8,15 +8,11 @@ use Rattle.no_read_rules.specs.Scope.{Meaning}
 use Rattle.no_print.specs.Pieces.{Piece}
 use Rattle.no_print.specs.Stand.{Stand}
 use Rattle.no_print.specs.Constants.{Spelled}
+pub use Rattle.no_names.specs.Spelled.{AreBytes}
 
 -- whatever tokens of the text stand as these pieces, the rule gives them this value and this state behind it
 abbrev pub Spells : {S A : Type 0} → List ℕ → Rule S A → S → List Piece → A → S → Type 0
 Spells text p s pieces a t = (tokens : List Token) → Stand text tokens pieces → p.means s tokens a t
-
--- each byte is below 256
-abbrev pub AreBytes : List ℕ → Type 0
-AreBytes [] = Unit {0}
-AreBytes (b ∷ bytes) = (b < 256) × AreBytes bytes
 
 -- the same names and types over another text
 abbrev pub over : Meaning → List ℕ → Meaning
@@ -38,9 +34,11 @@ abbrev pub WidthFits : Ty-F Ty → Type 0
 WidthFits (Ty-F.Int w) = (0 < w) × (w ≤ 64)
 WidthFits _ = Unit {0}
 
+-- a type is of 1 to 64 bits, if it is an integer type
 abbrev pub TypeFits : Ty → Type 0
 TypeFits t = WidthFits (out-Ty t)
 
+-- so is each of these types
 abbrev pub TypesFit : List Ty → Type 0
 TypesFit [] = Unit {0}
 TypesFit (t ∷ types) = TypeFits t × TypesFit types

@@ -19,6 +19,7 @@ pub record Follows (s t : Locals) : Type 0 where
   pub registers : Within s.registers t.registers
   pub labels : Within s.labels t.labels
 
+-- each name consists of bytes
 abbrev pub AreNames : List (List ℕ) → Type 0
 AreNames [] = Unit {0}
 AreNames (name ∷ names) = AreBytes name × AreNames names

@@ -6,7 +6,8 @@
 //! 1. `lexing` (`Lex`): a module is spelled as a list of pieces, each of which is blanks and one token. The pieces of every module
 //!    fit: no token runs into the next. So its text splits into tokens that are these pieces one for one. From here on nothing
 //!    is said of bytes: tokens *stand as* pieces.
-//! 2. `spelling` (`Word`): a name, a string and a number are read from their spellings as what they were.
+//! 2. `spelling` (`Word`): a name, a string and a number are read from their spellings as what they were; for names and strings
+//!    the lemmas are those of `no_names`.
 //! 3. `types` (`Rule`, `Type`): a rule of the grammar *spells* a value as pieces where whatever tokens stand as these pieces are read
 //!    by it to this value. There is one lemma for each way to make a rule, and then one for each rule: here for types.
 //! 4. `constants` (`Const`): the same for constants and the places that they name.

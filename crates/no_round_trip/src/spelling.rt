@@ -5,7 +5,8 @@ ghost use Rattle.no_read_rules.specs.Types.{word_type};
 ghost use Rattle.no_read_rules.specs.Numbers.{integer_at, count_of};
 ghost use Rattle.no_read_rules.specs.Unescaped.{unescaped, inner, name_of};
 ghost use Rattle.no_print.specs.Constants.{index_width};
-ghost use Rattle.no_print.specs.Names.{quoted, signed, spelling};
+ghost use Rattle.no_eval.specs.Numbers.{signed};
+ghost use Rattle.no_print.specs.Names.{quoted, spelling};
 ghost use Rattle.no_round_trip.specs.Spells.{AreBytes};
 
 /// The spelling of a name is read as that name, and a string in quotes as its bytes.

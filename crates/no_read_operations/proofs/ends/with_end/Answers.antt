@@ -1,7 +1,6 @@
-use Rattle.std.proofs.Common.{◌≡◌, Ok, sym, subst, Result, Bool, List, Bor}
+use Rattle.std.proofs.Common.{◌≡◌, Ok, subst, List, Bor}
 use Rattle.no_lex.specs.declared.token.Token.{Token}
 use Rattle.no_ir.specs.declared.instruction.Op.{Op}
-use Rattle.no_read_rules.specs.declared.fault.Stopped.{Stopped}
 use Rattle.no_read_rules.specs.Rules.{Gives}
 use Rattle.no_read_registers.specs.declared.locals.Locals.{Locals}
 use Rattle.no_read_operations.proofs.Ended.{behind_is}

@@ -1,4 +1,4 @@
-use Rattle.no_round_trip.proofs.WordNames.{name_again, string_again}
+use Rattle.no_names.proofs.Again.{name_again, string_again}
 use Rattle.no_round_trip.proofs.spelling.names_mean_again.Goals as goal
 
 pub returns-clause-name : goal.returns-clause-name

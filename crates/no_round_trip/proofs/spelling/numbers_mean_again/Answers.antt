@@ -2,7 +2,7 @@ use Rattle.std.proofs.Common.{refl, subst, ◌≡◌, Ok, ℕ}
 use Rattle.std.specs.Fmt.{signed_decimal}
 use Rattle.no_read_rules.specs.Numbers.{integer_at}
 use Rattle.no_read_rules.specs.declared.types.TypeHead.TheVariants as head
-use Rattle.no_print.specs.Names.{signed}
+use Rattle.no_eval.specs.Numbers.{signed}
 use Rattle.no_round_trip.proofs.WordNumbers.{integer_again, index_again, count_again}
 use Rattle.no_round_trip.proofs.WordWidths.{word_head}
 use Rattle.no_round_trip.proofs.spelling.numbers_mean_again.Goals as goal
