@@ -1,11 +1,11 @@
 -- Reading is decided by a prefix: brackets, rules with a state of their own, and attributes.
-use Rattle.std.proofs.Common.{◌≡◌, ℕ, suc, ◌-◌, Bool, true, false, List, [], ◌∷◌, ◌++◌, ◌==◌, Result, Ok, Err, Some, None, inl, inr, refl, sym, ap, subst, ◌∙◌, codes, if◌then◌else◌}
+use Rattle.std.proofs.Common.{◌≡◌, ℕ, suc, ◌-◌, Bool, true, false, List, [], ◌∷◌, ◌++◌, ◌==◌, Result, Ok, Err, None, inl, inr, refl, sym, ap, subst, ◌∙◌, codes, if◌then◌else◌}
 use Rattle.no_lex.specs.declared.token.Token.{Token}
 use Rattle.no_lex.specs.declared.token.TokenKind.TheVariants.{Integer}
 use Rattle.no_ir.specs.declared.function.Role.{Role}
 use Rattle.no_read_rules.specs.declared.fault.Stopped.{Stopped}
 use Rattle.no_read_rules.specs.declared.fault.Flaw.TheVariants.{Syntax}
-use Rattle.no_read_rules.specs.Rules.{Rule, fault, ◌>>=◌, done}
+use Rattle.no_read_rules.specs.Rules.{Rule, fault, ◌>>=◌}
 use Rattle.no_read_rules.specs.Spelled.{is_kind, is_sign}
 use Rattle.no_read_rules.proofs.Laws.{from_ok}
 use Rattle.no_read_attributes.specs.declared.attribute.Attribute.TheVariants as attribute
@@ -15,7 +15,7 @@ use Rattle.no_read_attributes.specs.Attributes.{begins_attribute, goes_on, align
 use Rattle.no_read_attributes.specs.Brackets.{behind_close, gone, to_close, bracketed}
 use Rattle.no_read_attributes.specs.Ending.{ahead}
 use Rattle.no_read_attributes.specs.Own.{with_state, inside}
-use Rattle.no_fault_places.specs.Prefixes.{Takes, Refuses, Stops, Steady, Eats}
+use Rattle.no_fault_places.specs.Prefixes.{Takes, Stops, Steady, Eats}
 use Rattle.no_fault_places.proofs.Prefix.{from_err, plain_steady, done_steady, if_next_steady, then_steady, plain_eats, then_eats}
 use Rattle.no_fault_places.proofs.Lists.{items_where_steady}
 

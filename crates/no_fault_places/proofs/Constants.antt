@@ -1,27 +1,27 @@
 -- Reading is decided by a prefix: types, places and constants.
-use Rattle.std.proofs.Common.{◌≡◌, ℕ, suc, zero, List, [], ◌∷◌, Option, Some, None, Ok, Err, inl, inr, codes, Result}
+use Rattle.std.proofs.Common.{◌≡◌, ℕ, suc, zero, List, [], ◌∷◌, Option, Some, None, inl, inr, codes, Result}
 use Rattle.no_lex.specs.declared.token.Token.{Token}
-use Rattle.no_ir.specs.declared.types.Ty.{Ty, out-Ty}
+use Rattle.no_ir.specs.declared.types.Ty.{Ty}
 use Rattle.no_ir.specs.declared.constant.Const.{Const}
 use Rattle.no_read_rules.specs.declared.fault.Flaw.{Flaw}
 use Rattle.no_read_rules.specs.declared.types.TypeHead.{TypeHead}
 use Rattle.no_read_rules.specs.declared.types.TypeHead.TheVariants as head
-use Rattle.no_read_rules.specs.Rules.{Rule, plain, checked, IsOne, keeping, none, Good}
+use Rattle.no_read_rules.specs.Rules.{Rule, plain, checked}
 use Rattle.no_read_rules.specs.Scope.{Meaning}
 use Rattle.no_read_rules.specs.Spelled.{is_sign}
 use Rattle.no_read_rules.specs.Types.{type_head, leaf_of, array_parts, struct_parts, packed_parts, after_type_head, a_type, must_be}
 use Rattle.no_read_rules.proofs.Laws.{plain_good}
 use Rattle.no_read_rules.proofs.TypeLaws.{type_good}
 use Rattle.no_read_constants.specs.Places.{is_flag, an_index, indices, gep_parts, after_place_head, a_place, begins_place}
-use Rattle.no_read_constants.specs.Constants.{ptr_to_int, int_to_ptr, after_leaf, address, member, past, next_field, end_or, more_fields, some_fields, no_fields, fields, array_const, struct_const, packed_const, after_head, flat_const, bracket_const, a_const}
+use Rattle.no_read_constants.specs.Constants.{ptr_to_int, int_to_ptr, after_leaf, address, member, next_field, end_or, more_fields, some_fields, no_fields, fields, array_const, struct_const, packed_const, after_head, flat_const, bracket_const, a_const}
 use Rattle.no_read_constants.specs.declared.places.PlaceHead.{PlaceHead}
 use Rattle.no_read_constants.specs.declared.places.PlaceHead.TheVariants.{Bare, Gep}
 use Rattle.no_read_constants.specs.declared.constants.LeafHead.{LeafHead}
 use Rattle.no_read_constants.specs.declared.constants.LeafHead.TheVariants as leaf
 use Rattle.no_read_constants.specs.declared.constants.ConstHead.{ConstHead}
 use Rattle.no_read_constants.specs.declared.constants.ConstHead.TheVariants as const_head
-use Rattle.no_fault_places.specs.Prefixes.{IsPart, Steady, Eats}
-use Rattle.no_fault_places.proofs.Prefix.{plain_steady, done_steady, choose_steady, if_next_steady, then_steady, checked_steady, plain_eats}
+use Rattle.no_fault_places.specs.Prefixes.{Steady}
+use Rattle.no_fault_places.proofs.Prefix.{plain_steady, done_steady, choose_steady, if_next_steady, then_steady, checked_steady}
 use Rattle.no_fault_places.proofs.Lists.{items_steady, more_items_steady, behind_steady}
 
 -- ---- one token that has to pass

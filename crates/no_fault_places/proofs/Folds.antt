@@ -2,10 +2,10 @@
 use Rattle.std.proofs.Common.{◌≡◌, ℕ, suc, zero, ◌<◌, Bool, true, false, List, [], ◌∷◌, ◌++◌, ◌⊎◌, length, Result, Ok, Err, inl, inr, refl, sym, ap, subst, ◌∙◌, append_assoc, arith}
 use Rattle.no_lex.specs.declared.token.Token.{Token}
 use Rattle.no_read_rules.specs.declared.fault.Stopped.{Stopped}
-use Rattle.no_read_rules.specs.Rules.{Rule, after, next_is}
+use Rattle.no_read_rules.specs.Rules.{Rule, next_is}
 use Rattle.no_read_rules.proofs.Laws.{from_ok, after_ok}
 use Rattle.no_read_operations.specs.Folded.{stepped, folded_read, folded_all, folded}
-use Rattle.no_fault_places.specs.Prefixes.{BeginAlike, Takes, Refuses, Stops, Steady, Eats}
+use Rattle.no_fault_places.specs.Prefixes.{BeginAlike, Takes, Stops, Steady, Eats}
 use Rattle.no_fault_places.proofs.Prefix.{after_err, begin_behind, begin_part, same_test}
 
 module _ {S A : Type 0} (test : Token → Bool) (step : A → Rule S A) (h : (a : A) → Steady (step a)) (eats : (a : A) → Eats (step a)) where

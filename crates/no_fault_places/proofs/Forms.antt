@@ -1,5 +1,5 @@
 -- Reading is decided by a prefix: operands, forms of instructions, and what ends them.
-use Rattle.std.proofs.Common.{ℕ, Bool, true, false, List, [], ◌∷◌, codes, Option, Some, None}
+use Rattle.std.proofs.Common.{ℕ, Bool, true, false, List, codes, Some, None}
 use Rattle.no_lex.specs.declared.token.TokenKind.TheVariants.{Local}
 use Rattle.no_ir.specs.declared.function.Role.{Role}
 use Rattle.no_ir.specs.declared.types.Ty.{Ty}
@@ -11,10 +11,10 @@ use Rattle.no_read_rules.specs.Rules.{Rule}
 use Rattle.no_read_rules.specs.Repeated.{repeat}
 use Rattle.no_read_rules.specs.Scope.{Meaning}
 use Rattle.no_read_rules.specs.Spelled.{is_kind, is_word, is_sign, only_where}
-use Rattle.no_read_rules.specs.Types.{must_be, a_type}
+use Rattle.no_read_rules.specs.Types.{must_be}
 use Rattle.no_read_constants.specs.Places.{is_flag, width_of}
 use Rattle.no_read_registers.specs.declared.locals.Locals.{Locals}
-use Rattle.no_read_registers.specs.Numbered.{a_register, a_label, a_label_name}
+use Rattle.no_read_registers.specs.Numbered.{a_label, a_label_name}
 use Rattle.no_read_operations.specs.declared.operands.Flags.TheVariants as flags
 use Rattle.no_read_operations.specs.declared.ends.Ending.{Ending}
 use Rattle.no_read_operations.specs.declared.ends.Listed.{Listed}

@@ -1,18 +1,16 @@
 -- Reading is decided by a prefix: heads, blocks and whole functions.
-use Rattle.std.proofs.Common.{ℕ, Bool, true, false, List, [], ◌∷◌, codes, Option, Some, None, inl, Ok, ◌≡◌, length, ◌<◌}
+use Rattle.std.proofs.Common.{ℕ, Bool, true, List, [], ◌∷◌, codes, Option, Some, None, ◌≡◌}
 use Rattle.no_lex.specs.declared.token.Token.{Token}
 use Rattle.no_lex.specs.declared.token.TokenKind.TheVariants.{Local}
 use Rattle.no_ir.specs.declared.function.Role.{Role}
 use Rattle.no_ir.specs.declared.types.Ty.TheVariants as ty
-use Rattle.no_read_rules.specs.Repeated.{repeat}
-use Rattle.no_read_rules.specs.Rules.{Rule, change, checked, plain, maybe}
+use Rattle.no_read_rules.specs.Rules.{Rule, change, maybe}
 use Rattle.no_read_rules.specs.Scope.{Meaning}
 use Rattle.no_read_rules.specs.Spelled.{is_kind, is_word, is_sign, only_where}
 use Rattle.no_read_rules.proofs.Laws.{change_good}
-use Rattle.no_read_registers.specs.declared.locals.Locals.{Locals}
 use Rattle.no_read_registers.specs.Numbered.{register_unnamed, no_block_label, numbered_label, fitting, written_label, no_locals_yet}
 use Rattle.no_read_instructions.specs.Instructions.{an_instr}
-use Rattle.no_read_functions.specs.Heads.{any_name, or_no_name, own_name, place_name, param_name, a_param, params, result_type, words_type, head_marks, a_head}
+use Rattle.no_read_functions.specs.Heads.{any_name, or_no_name, own_name, place_name, a_param, params, result_type, words_type, head_marks, a_head}
 use Rattle.no_read_functions.specs.Blocks.{is_close, is_label, closing, label_piece, instr_piece, labelled, unlabelled, a_piece, entry, body}
 use Rattle.no_read_functions.specs.Functions.{head_body, written, a_function}
 use Rattle.no_fault_places.specs.Prefixes.{Steady, Eats}

@@ -1,5 +1,5 @@
 -- Reading is decided by a prefix: calls and whole instructions.
-use Rattle.std.proofs.Common.{ℕ, Bool, true, false, List, codes, Option, Some, None}
+use Rattle.std.proofs.Common.{ℕ, true, false, codes, Option, Some, None}
 use Rattle.std.specs.Prelude.{is_some}
 use Rattle.no_lex.specs.declared.token.TokenKind.TheVariants.{Local}
 use Rattle.no_ir.specs.declared.function.Role.{Role}
@@ -9,9 +9,9 @@ use Rattle.no_ir.specs.declared.instruction.Op.TheVariants as op
 use Rattle.no_read_rules.specs.Rules.{Rule}
 use Rattle.no_read_rules.specs.Scope.{Meaning}
 use Rattle.no_read_rules.specs.Spelled.{is_kind, is_word}
-use Rattle.no_read_attributes.specs.Attributes.{all_go_on, all_attributes}
+use Rattle.no_read_attributes.specs.Attributes.{all_go_on}
 use Rattle.no_read_registers.specs.declared.locals.Locals.{Locals}
-use Rattle.no_read_registers.specs.Numbered.{a_definition, written_register, register_unnamed}
+use Rattle.no_read_registers.specs.Numbered.{written_register, register_unnamed}
 use Rattle.no_read_operations.specs.Operands.{an_operand}
 use Rattle.no_read_instructions.specs.declared.heads.Giver.{Giver}
 use Rattle.no_read_instructions.specs.declared.heads.Giver.TheVariants as giver
@@ -20,7 +20,7 @@ use Rattle.no_read_instructions.specs.declared.heads.Action.TheVariants as actio
 use Rattle.no_read_instructions.specs.declared.heads.InstrHead.{InstrHead}
 use Rattle.no_read_instructions.specs.declared.heads.InstrHead.TheVariants as head
 use Rattle.no_read_instructions.specs.Heads.{instr_head}
-use Rattle.no_read_instructions.specs.Calls.{result_of, behind_attributes, an_argument, call_parts, void_of, void_call, typed_call, call_type, call_form}
+use Rattle.no_read_instructions.specs.Calls.{result_of, behind_attributes, an_argument, call_parts, void_call, typed_call, call_type, call_form}
 use Rattle.no_read_instructions.specs.Instructions.{giver_form, action_form, giving, acting, tail_call, after_instr_head, instr_body, named_instr, an_instr}
 use Rattle.no_fault_places.specs.Prefixes.{Steady, Eats}
 use Rattle.no_fault_places.proofs.Prefix.{one_steady, plain_steady, done_steady, change_steady, lift_steady, if_next_steady, then_steady, one_eats, plain_eats, lift_eats, then_eats, if_next_eats}

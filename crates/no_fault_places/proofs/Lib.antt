@@ -1,3 +1,12 @@
+pub mod Alike
+pub mod AlikeAttributes
+pub mod AlikeConstants
+pub mod AlikeForms
+pub mod AlikeFunctions
+pub mod AlikeInstructions
+pub mod AlikeLists
+pub mod AlikeModules
+pub mod AlikeTypes
 pub mod Attributes
 pub mod Constants
 pub mod Folds

@@ -4,13 +4,13 @@ use Rattle.no_lex.specs.declared.token.Token.{Token}
 use Rattle.no_read_rules.specs.declared.fault.Stopped.{Stopped}
 use Rattle.no_read_rules.specs.Lists.{closes_list, more_item, some_items, no_items, items}
 use Rattle.no_read_rules.specs.Repeated.{with_item, next_item, repeat_read, repeat_all, repeat}
-use Rattle.no_read_rules.specs.Rules.{Rule, after, plain, done, ◌>>=◌, next_is, if_next, choose}
+use Rattle.no_read_rules.specs.Rules.{Rule, after, plain, done, ◌>>=◌, next_is, choose}
 use Rattle.no_read_rules.specs.Spelled.{is_sign}
 use Rattle.no_read_rules.proofs.Laws.{from_ok, after_ok}
 use Rattle.no_read_constants.specs.Skipped.{skip_while, behind}
 use Rattle.no_read_attributes.specs.Ending.{more_where, items_where}
-use Rattle.no_fault_places.specs.Prefixes.{BeginAlike, Takes, Refuses, Stops, Steady, Eats}
-use Rattle.no_fault_places.proofs.Prefix.{from_err, after_err, begin_behind, begin_part, same_test, plain_steady, done_steady, choose_steady, if_next_steady, then_steady, plain_eats, then_eats}
+use Rattle.no_fault_places.specs.Prefixes.{BeginAlike, Takes, Stops, Steady, Eats}
+use Rattle.no_fault_places.proofs.Prefix.{after_err, begin_behind, begin_part, plain_steady, done_steady, choose_steady, if_next_steady, then_steady, plain_eats, then_eats}
 
 -- ---- a step as long as it gives an item
 

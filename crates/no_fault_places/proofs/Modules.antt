@@ -1,30 +1,21 @@
 -- Reading is decided by a prefix: globals, all forms at the top, and whole modules.
-use Rattle.std.proofs.Common.{◌≡◌, ℕ, Bool, true, false, List, [], ◌∷◌, ◌++◌, ◌⊎◌, codes, Option, Some, None, Result, Ok, Err, inl, inr, refl, sym, ap, subst, ◌∙◌, append_assoc}
-use Rattle.no_lex.specs.declared.token.Token.{Token}
+use Rattle.std.proofs.Common.{ℕ, false, List, codes, Some, None}
 use Rattle.no_lex.specs.declared.token.TokenKind.TheVariants as kind
-use Rattle.no_ir.specs.declared.types.Ty.{Ty}
-use Rattle.no_ir.specs.declared.function.Module.{Module}
 use Rattle.no_ir.specs.declared.function.Role.{Role}
-use Rattle.no_read_rules.specs.declared.fault.Flaw.TheVariants.{Syntax}
-use Rattle.no_read_rules.specs.declared.fault.Stopped.{Stopped}
-use Rattle.no_read_rules.specs.Rules.{Rule, fault, after, one, plain, done, ◌>>=◌, maybe, all_taken}
 use Rattle.no_read_rules.specs.Scope.{Meaning}
 use Rattle.no_read_rules.specs.Spelled.{is_kind, only_where, is_sign}
-use Rattle.no_read_rules.proofs.Laws.{from_ok, after_ok}
 use Rattle.no_read_attributes.specs.Symbols.{symbol_name}
 use Rattle.no_read_registers.specs.Numbered.{no_locals_yet}
 use Rattle.no_read_functions.specs.Heads.{a_head}
 use Rattle.no_read_toplevel.specs.declared.globals.TailHead.{TailHead}
 use Rattle.no_read_toplevel.specs.declared.globals.TailHead.TheVariants.{Align, Section, Attachment}
-use Rattle.no_read_toplevel.specs.declared.tops.Top.{Top}
 use Rattle.no_read_toplevel.specs.declared.tops.TopWord.{TopWord}
 use Rattle.no_read_toplevel.specs.declared.tops.TopWord.TheVariants as begins
 use Rattle.no_read_toplevel.specs.Globals.{is_idle, constant_of, metadata_of, after_tail_head, a_tail, is_comma, tails, a_global}
-use Rattle.no_read_toplevel.specs.Entities.{a_source, target_of, a_target, a_group, is_distinct, a_node, a_declaration}
+use Rattle.no_read_toplevel.specs.Entities.{a_source, target_of, a_target, a_group, is_distinct, a_node}
 use Rattle.no_read_toplevel.specs.Tops.{top_word, begins_top, source_top, target_top, function_top, declared_top, group_top, global_top, node_top, after_word, worded, a_top, tops}
-use Rattle.no_read_toplevel.specs.Modules.{with_module, forms_read}
-use Rattle.no_fault_places.specs.Prefixes.{Takes, Refuses, Stops, Steady, Eats}
-use Rattle.no_fault_places.proofs.Prefix.{from_err, after_err, begin_part, one_steady, plain_steady, done_steady, lift_steady, if_next_steady, then_steady, one_eats, plain_eats, lift_eats, then_eats, if_next_eats}
+use Rattle.no_fault_places.specs.Prefixes.{Steady, Eats}
+use Rattle.no_fault_places.proofs.Prefix.{one_steady, plain_steady, done_steady, lift_steady, if_next_steady, then_steady, plain_eats, lift_eats, then_eats, if_next_eats}
 use Rattle.no_fault_places.proofs.Lists.{items_where_steady, behind_steady}
 use Rattle.no_fault_places.proofs.Attributes.{bracketed_steady, inside_steady, marks_steady}
 use Rattle.no_fault_places.proofs.Constants.{type_steady, const_steady}

@@ -1,5 +1,5 @@
 -- Reading that is decided by a prefix: what was read is read again, and what was refused is refused again, whatever follows.
-use Rattle.std.specs.Prelude.{◌≡◌, ℕ, ◌<◌, length, List, [], ◌∷◌, ◌++◌, ◌⊎◌, Option, Some, None, Result, Ok, Err}
+use Rattle.std.specs.Prelude.{◌≡◌, ℕ, ◌<◌, length, List, [], ◌∷◌, ◌++◌, ◌⊎◌, Some, None, Ok, Err}
 use Rattle.no_lex.specs.declared.token.Token.{Token}
 use Rattle.no_ir.specs.declared.types.Ty.{Ty}
 use Rattle.no_read_rules.specs.declared.fault.Stopped.{Stopped}
