@@ -59,13 +59,16 @@ abbrev pub first_from : ℕ → ℕ → List Block → Option ℕ
 first_from l k [] = None
 first_from l k (b ∷ bs) = if b.label == l then Some k else first_from l (k + 1) bs
 
+-- the number of the first block of a function that has the label
 abbrev pub block_of : Function → ℕ → Option ℕ
 block_of g l = first_from l 0 g.blocks
 
+-- the block of this number, where there is one
 abbrev pub block_found : Function → Option ℕ → Option Block
 block_found g None = None
 block_found g (Some b) = slice_get g.blocks b
 
+-- how many cells a block has: one for each instruction
 abbrev pub block_size : Block → ℕ
 block_size b = length b.instrs
 
@@ -87,6 +90,7 @@ size_of g = before g.blocks (length g.blocks)
 abbrev pub first_cell : List Function → ℕ → ℕ
 first_cell functions f = 1 + total size_of functions f
 
+-- an instruction is a phi
 abbrev pub is_phi : Op → Bool
 is_phi (op.Phi t pairs) = true
 is_phi _ = false
@@ -103,14 +107,17 @@ incoming l (pair ∷ pairs) = if pair.1 == l then Some pair.0 else incoming l pa
 
 -- ---- callees
 
+-- function k, where no indices follow its name
 abbrev pub bare : List Rattle.std.specs.Prelude.ℤ → ℕ → Option ℕ
 bare [] k = Some k
 bare (i ∷ is) k = None
 
+-- the function that a symbol names, where no indices follow
 abbrev pub symbol_named : Symbol → List Rattle.std.specs.Prelude.ℤ → Option ℕ
 symbol_named (symbol.Function k) indices = bare indices k
 symbol_named _ indices = None
 
+-- the function whose bare name a constant is
 abbrev pub constant_named : Const → Option ℕ
 constant_named (const.Address place) = symbol_named place.symbol place.indices
 constant_named _ = None
@@ -120,12 +127,14 @@ abbrev pub direct : Operand → Option ℕ
 direct (operand.Const c) = constant_named c
 direct (operand.Reg r) = None
 
+-- the kind of a type, by its outermost layer
 abbrev pub kind_step : Ty-F Ty → Kind
 kind_step Ty-F.Void = kind.Void
 kind_step (Ty-F.Int w) = kind.Int w
 kind_step Ty-F.Ptr = kind.Ptr
 kind_step _ = kind.Other
 
+-- the kind of a parameter's, an argument's or a result's type
 abbrev pub kind_of : Ty → Kind
 kind_of t = kind_step (out-Ty t)
 
@@ -137,11 +146,13 @@ Told (Some t) f = f t
 -- ---- by a source, the number of registers of the function, and tables
 
 module _ (s : Source) (n : ℕ) (code : Code) where
+  -- the slot of an operand of w bits
   abbrev pub HasSlot : ℕ → Operand → ℕ → Type 0
   HasSlot = IsSlot s n code.constants
 
   -- ---- values
 
+  -- a binary operator at w bits, with the slots of its result and of both operands
   pub record IsBinary (o : BinOp) (w into x y : ℕ) (i : Instr) : Type 0 where
     pub a : Operand
     pub b : Operand
@@ -150,6 +161,7 @@ module _ (s : Source) (n : ℕ) (code : Code) where
     pub left : HasSlot w a x
     pub right : HasSlot w b y
 
+  -- a comparison of operands of w bits, with the slots of its result and of both operands
   pub record IsCompare (o : Pred) (w into x y : ℕ) (i : Instr) : Type 0 where
     pub t : Ty
     pub a : Operand
@@ -160,6 +172,7 @@ module _ (s : Source) (n : ℕ) (code : Code) where
     pub left : HasSlot w a x
     pub right : HasSlot w b y
 
+  -- a conversion from w to v bits, with the slots of its result and its operand
   pub record IsCast (o : CastOp) (w v into x : ℕ) (i : Instr) : Type 0 where
     pub t : Ty
     pub a : Operand
@@ -170,6 +183,7 @@ module _ (s : Source) (n : ℕ) (code : Code) where
     pub result : IsInto n i.result into
     pub value : HasSlot w a x
 
+  -- a freeze, with the slots of its result and its operand
   pub record IsCopy (into x : ℕ) (i : Instr) : Type 0 where
     pub t : Ty
     pub a : Operand
@@ -177,6 +191,7 @@ module _ (s : Source) (n : ℕ) (code : Code) where
     pub result : IsInto n i.result into
     pub value : HasSlot (width_of s.layout t) a x
 
+  -- a select, with the slots of its result, its condition and both operands
   pub record IsSelect (into z x y : ℕ) (i : Instr) : Type 0 where
     pub c : Operand
     pub t : Ty
@@ -195,6 +210,7 @@ module _ (s : Source) (n : ℕ) (code : Code) where
   IsCount None x = HasSlot 64 (operand.Const (const.Int 1)) x
   IsCount (Some count) x = HasSlot count.0 count.1 x
 
+  -- an alloca, with the slots of its result and its count, how far two values are apart, and the alignment
   pub record IsAlloca (into x stride align : ℕ) (i : Instr) : Type 0 where
     pub t : Ty
     pub count : Option (ℕ × Operand)
@@ -206,6 +222,7 @@ module _ (s : Source) (n : ℕ) (code : Code) where
     pub aligned : type_fits s.layout s.sizes t ≡ true → align ≡ stated_or stated (type_align s.layout s.sizes t)
     pub some : align_fits stated ≡ true → 0 < align
 
+  -- a load of w bits, with the slots of its result and its address
   pub record IsLoad (w into x : ℕ) (i : Instr) : Type 0 where
     pub volatile : Bool
     pub t : Ty
@@ -215,6 +232,7 @@ module _ (s : Source) (n : ℕ) (code : Code) where
     pub result : IsInto n i.result into
     pub address : HasSlot s.layout.pointer a x
 
+  -- a store of w bits, with the slots of its value and its address
   pub record IsStore (w y x : ℕ) (i : Instr) : Type 0 where
     pub volatile : Bool
     pub t : Ty
@@ -232,6 +250,7 @@ module _ (s : Source) (n : ℕ) (code : Code) where
   IsIndex t index (step.Index w x stride) = (w ≡ index.0) × HasSlot index.0 index.1 x × (type_fits s.layout s.sizes t ≡ true → stride ≡ type_stride s.layout s.sizes t)
   IsIndex t index (step.Field offset) = ⊥
 
+  -- a step into field k of a struct, by the field's offset
   abbrev pub IsField : Ty → Option ℕ → Step → Type 0
   IsField t None one = Unit {0}
   IsField t (Some k) (step.Field offset) = type_fits s.layout s.sizes t ≡ true → k < 2 ^ 31 → HasField t k → offset ≡ offset_of s.layout s.sizes t k
@@ -250,10 +269,12 @@ module _ (s : Source) (n : ℕ) (code : Code) where
       Told (known_part (out-Ty (resolved s.«module».types t)) index)
       (λ next. (one : Step) × (more : List Step) × (steps ≡ one ∷ more) × IsPartStep (resolved s.«module».types t) (out-Ty (resolved s.«module».types t)) index one × AreInner next indices more)
 
+  -- the steps of a getelementptr: the first index over whole values, and then those inside
   abbrev pub ArePath : Ty → List (ℕ × Operand) → List Step → Type 0
   ArePath t [] steps = steps ≡ []
   ArePath t (index ∷ indices) steps = (one : Step) × (more : List Step) × (steps ≡ one ∷ more) × IsIndex t index one × AreInner t indices more
 
+  -- a getelementptr, with the slots of its result and its base address, and the range of its steps
   pub record IsGep (into x from to : ℕ) (i : Instr) : Type 0 where
     pub t : Ty
     pub a : Operand
@@ -267,9 +288,11 @@ module _ (s : Source) (n : ℕ) (code : Code) where
 
   -- ---- calls
 
+  -- the slot and the kind of an argument
   abbrev pub IsArgument : Ty × Operand → Argument → Type 0
   IsArgument given a = HasSlot (width_of s.layout given.0) given.1 a.slot × (a.kind ≡ kind_of given.0)
 
+  -- a call of function f by its name, with the slot of its result and the range of its arguments
   pub record IsCall (into f from to : ℕ) (i : Instr) : Type 0 where
     pub t : Ty
     pub callee : Operand
@@ -281,6 +304,7 @@ module _ (s : Source) (n : ℕ) (code : Code) where
     pub range : IsRange code.arguments from to arguments
     pub each : Each IsArgument given arguments
 
+  -- a call through a pointer; its range has the callee with the result's kind in front of the arguments
   pub record IsCallAt (into from to : ℕ) (i : Instr) : Type 0 where
     pub t : Ty
     pub callee : Operand
@@ -297,10 +321,12 @@ module _ (s : Source) (n : ℕ) (code : Code) where
   -- ---- branches, in a block of this label in a function whose first cell has number base
 
   module _ (g : Function) (base label : ℕ) where
+    -- the slot of what a phi has for this block, if it has anything
     abbrev pub IsTaken : ℕ → Option Operand → ℕ → Type 0
     IsTaken w None x = x ≤ n
     IsTaken w (Some o) x = HasSlot w o x
 
+    -- the slot of what a phi is given on an edge from this block
     abbrev pub IsFrom : Op → ℕ → Type 0
     IsFrom (op.Phi t pairs) x = IsTaken (width_of s.layout t) (incoming label pairs) x
     IsFrom _ x = x ≤ n
@@ -309,6 +335,7 @@ module _ (s : Source) (n : ℕ) (code : Code) where
     abbrev pub IsMove : Instr → Move → Type 0
     IsMove i v = IsInto n i.result v.into × IsFrom i.op v.from
 
+    -- an edge to the cell that is no instruction, without moves
     abbrev pub LeadsNowhere : Edge → Type 0
     LeadsNowhere e = (e.target ≡ 0) × (e.from ≡ e.to)
 
@@ -322,16 +349,19 @@ module _ (s : Source) (n : ℕ) (code : Code) where
     LeadsTo None e = LeadsNowhere e
     LeadsTo (Some b) e = LeadsIn b (slice_get g.blocks b) e
 
+    -- edge e of the table leads from this block to a label
     pub record IsEdge (to e : ℕ) : Type 0 where
       pub edge : Edge
       pub is : slice_get code.edges e ≡ Some edge
       pub leads : LeadsTo (block_of g to) edge
 
+    -- a branch along edge e
     pub record IsBr (e : ℕ) (i : Instr) : Type 0 where
       pub to : ℕ
       pub is : i.op ≡ op.Br to
       pub edge : IsEdge to e
 
+    -- a branch on the condition in slot x: along edge e where it is true, and else along edge f
     pub record IsCondBr (x e f : ℕ) (i : Instr) : Type 0 where
       pub a : Operand
       pub to : ℕ
@@ -341,9 +371,11 @@ module _ (s : Source) (n : ℕ) (code : Code) where
       pub edge : IsEdge to e
       pub other_edge : IsEdge other f
 
+    -- a case, with its number and an edge to its label
     abbrev pub IsCase : ℕ × ℕ → Case → Type 0
     IsCase given c = (c.number ≡ given.0) × IsEdge given.1 c.edge
 
+    -- a switch on slot x, with the edge of its default and the range of its cases
     pub record IsSwitch (x e from to : ℕ) (i : Instr) : Type 0 where
       pub w : ℕ
       pub a : Operand
@@ -358,6 +390,7 @@ module _ (s : Source) (n : ℕ) (code : Code) where
 
     -- ---- returns
 
+    -- a return of what slot x holds
     pub record IsRet (x : ℕ) (i : Instr) : Type 0 where
       pub t : Ty
       pub a : Operand
@@ -366,6 +399,7 @@ module _ (s : Source) (n : ℕ) (code : Code) where
 
     -- ---- all of them
 
+    -- a cell is that of an instruction
     abbrev pub IsCell : Instr → Cell → Type 0
     IsCell i cell.Nothing = ⊥
     IsCell i cell.Phi = is_phi i.op ≡ true

@@ -25,6 +25,7 @@ use Rattle.no_code.specs.Longer.{Longer}
 use Rattle.no_code.specs.Whole.{HasBlocks, HasCell, HasFunction, HasHome, IsParameter}
 use Rattle.no_code.specs.Source.{Source}
 
+-- the cell of a binary operator, by its width and the slots of its result and its operands
 abbrev pub binary_cell : BinOp → ℕ → ℕ → ℕ → ℕ → Cell
 binary_cell bin.Add w into x y = cell.Add w into x y
 binary_cell bin.Sub w into x y = cell.Sub w into x y
@@ -40,6 +41,7 @@ binary_cell bin.And w into x y = cell.And w into x y
 binary_cell bin.Or w into x y = cell.Or w into x y
 binary_cell bin.Xor w into x y = cell.Xor w into x y
 
+-- the cell of a comparison, by its width and the slots of its result and its operands
 abbrev pub compare_cell : Pred → ℕ → ℕ → ℕ → ℕ → Cell
 compare_cell pred.Eq w into x y = cell.Eq w into x y
 compare_cell pred.Ne w into x y = cell.Ne w into x y
@@ -52,6 +54,7 @@ compare_cell pred.Sge w into x y = cell.Sge w into x y
 compare_cell pred.Slt w into x y = cell.Slt w into x y
 compare_cell pred.Sle w into x y = cell.Sle w into x y
 
+-- the cell of a conversion, by both widths and the slots of its result and its operand
 abbrev pub cast_cell : CastOp → ℕ → ℕ → ℕ → ℕ → Cell
 cast_cell cast.Trunc w v into x = cell.Trunc w v into x
 cast_cell cast.ZExt w v into x = cell.ZExt w v into x
@@ -71,6 +74,7 @@ pub record Grows (a b : Code) : Type 0 where
 abbrev pub Stays : Source → Function → Frame → Code → Instr → Cell → Type 0
 Stays s g f code i c = (later : Code) → Longer code later → IsCell s f.registers later g f.base f.label i c
 
+-- edge e leads to this label now, and whatever is added later
 abbrev pub EdgeStays : Source → Function → Frame → Code → ℕ → ℕ → Type 0
 EdgeStays s g f code to e = (later : Code) → Longer code later → IsEdge s f.registers later g f.base f.label to e
 

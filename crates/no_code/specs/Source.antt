@@ -15,6 +15,7 @@ pub record Source : Type 0 where
   pub sizes : List Extent
   pub addresses : List ℕ
 
+-- what code is made of, from its parts
 abbrev pub source : Module → Layout → List Extent → List ℕ → Source
 source m l sizes addresses = record { «module» = m; layout = l; sizes = sizes; addresses = addresses }
 

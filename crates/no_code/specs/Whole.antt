@@ -23,6 +23,7 @@ pub record HasCell (s : Source) (code : Code) (f : ℕ) (g : Function) (base b :
 abbrev pub IsParameter : ℕ × Ty → Argument → Type 0
 IsParameter param a = (a.slot ≡ param.0) × (a.kind ≡ kind_of param.1)
 
+-- function f has its home: its first cell, how many registers it has, its parameters, and the kind of its result
 pub record HasHome (code : Code) (f : ℕ) (g : Function) (base : ℕ) : Type 0 where
   pub home : Home
   pub params : List Argument
@@ -37,6 +38,7 @@ pub record HasHome (code : Code) (f : ℕ) (g : Function) (base : ℕ) : Type 0 
 abbrev pub HasBlocks : Source → Code → ℕ → Function → ℕ → ℕ → Type 0
 HasBlocks s code f g base count = (b k : ℕ) (block : Block) (i : Instr) → b < count → slice_get g.blocks b ≡ Some block → slice_get block.instrs k ≡ Some i → HasCell s code f g base b block k i
 
+-- function f has its home, and a cell for each of its instructions
 pub record HasFunction (s : Source) (code : Code) (f : ℕ) (g : Function) (base : ℕ) : Type 0 where
   pub home : HasHome code f g base
   pub blocks : HasBlocks s code f g base (length g.blocks)

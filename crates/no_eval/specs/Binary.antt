@@ -8,12 +8,15 @@ use Rattle.no_eval.specs.Numbers.{signed, modulo, least, greatest}
 
 -- ---- sums and products, modulo 2 ^ w
 
+-- the sum of two numbers of w bits, modulo 2 ^ w
 abbrev pub add_of : ℕ → ℕ → ℕ → ℕ
 add_of w a b = (a + b) % 2 ^ w
 
+-- the difference of two numbers of w bits, modulo 2 ^ w
 abbrev pub sub_of : ℕ → ℕ → ℕ → ℕ
 sub_of w a b = (a + 2 ^ w - b) % 2 ^ w
 
+-- the product of two numbers of w bits, modulo 2 ^ w
 abbrev pub mul_of : ℕ → ℕ → ℕ → ℕ
 mul_of w a b = a * b % 2 ^ w
 
@@ -29,24 +32,29 @@ divided false false q = Ok q
 abbrev pub is_overflow : ℕ → ℕ → ℕ → Bool
 is_overflow w a b = a == least w && b == greatest w
 
+-- the unsigned quotient; a divisor of 0 traps
 abbrev pub udiv_of : ℕ → ℕ → Result ℕ Trap
 udiv_of a b = divided (b == 0) false (a / b)
 
+-- the unsigned remainder; a divisor of 0 traps
 abbrev pub urem_of : ℕ → ℕ → Result ℕ Trap
 urem_of a b = divided (b == 0) false (a % b)
 
+-- the signed quotient; a divisor of 0 traps, and so does a quotient that w bits don't hold
 abbrev pub sdiv_of : ℕ → ℕ → ℕ → Result ℕ Trap
 sdiv_of w a b = divided (b == 0) (is_overflow w a b) (modulo w (int_div (signed w a) (signed w b)))
 
--- the remainder has the dividend's sign
+-- the signed remainder, which has the dividend's sign; a divisor of 0 traps, and so does an overflow of the quotient
 abbrev pub srem_of : ℕ → ℕ → ℕ → Result ℕ Trap
 srem_of w a b = divided (b == 0) (is_overflow w a b) (modulo w (int_rem (signed w a) (signed w b)))
 
 -- ---- shifts: one by the width or more leaves what a shift by the width leaves
 
+-- a shift to the left, modulo 2 ^ w
 abbrev pub shl_of : ℕ → ℕ → ℕ → ℕ
 shl_of w a b = a * 2 ^ min b w % 2 ^ w
 
+-- a shift to the right that brings zeros in from the left
 abbrev pub lshr_of : ℕ → ℕ → ℕ → ℕ
 lshr_of w a b = a / 2 ^ min b w
 
@@ -61,6 +69,7 @@ ashr_of w a b = modulo w (divided_down (signed w a) (2 ^ min b w))
 
 -- ---- all of them
 
+-- what each operator gives of two numbers of w bits, or the trap that stands in its place
 abbrev pub binary_of : BinOp → ℕ → ℕ → ℕ → Result ℕ Trap
 binary_of op.Add w a b = Ok (add_of w a b)
 binary_of op.Sub w a b = Ok (sub_of w a b)

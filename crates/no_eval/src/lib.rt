@@ -14,3 +14,4 @@ pub use arithmetic::binary;
 pub use comparison::compare;
 pub use conversion::cast;
 pub use laws::results_are_within;
+pub use number::signed;

@@ -31,16 +31,17 @@ pub(crate) fn low_bits(w: u8, n: u64) -> u64
 }
 
 /// The signed reading of a number of w bits.
-pub(crate) fn signed(w: u8, a: u64) -> i64
+pub fn signed(w: u8, a: u64) -> i64
     requires some { 0 < w }
     requires most { w ≤ 64 }
     requires within { a < 2 ^ w }
     ensures { result ≡ signed_of w a }
 {
-    if a < least(w) {
+    let gap = greatest(w) - a;
+    if a <= gap {
         a as i64
     } else {
-        -1 - ((greatest(w) - a) as i64)
+        -1 - (gap as i64)
     }
 }
 

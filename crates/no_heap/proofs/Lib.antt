@@ -4,6 +4,7 @@ pub mod Gaps
 pub mod Telling
 pub mod Restored
 pub mod Placing
+mod Rows
 pub mod Indexed
 pub mod Found
 pub mod Merging

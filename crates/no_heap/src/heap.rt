@@ -1,4 +1,4 @@
-ghost use Rattle.std.specs.Prelude.{◌≡◌, ◌<◌, ◌≤◌, ◌%◌, ◌-◌, List, [], length, None, IfOk, IfErr, IfSome, IfNone, vec_len, vec_capacity};
+ghost use Rattle.std.specs.Prelude.{◌≡◌, ◌<◌, ◌≤◌, ◌%◌, ◌-◌, List, [], length, None, IfOk, IfSome, IfNone, vec_capacity};
 ghost use Rattle.no_heap.specs.Blocks.{AreLive, set_block, Frees, SaysHeap, TakesOut};
 ghost use Rattle.no_heap.specs.Changes.{AreChanges, Applies};
 ghost use Rattle.no_heap.specs.Index.{AreWidest};
@@ -10,16 +10,16 @@ use crate::comparison::compare;
 use crate::gap::{find_gap, rounded};
 use crate::index::{forget, raise_each};
 use crate::leaving::leave;
+use crate::row::Row;
 use crate::search::find;
 use no_ir::{List, NoMemory, Trap};
 use std::alloc::Global;
 use std::marker::Model;
-use std::mem;
 
 /// The live blocks, which contracts see as a list that rises by place.
 #[derive(Debug, Drop)]
 pub struct Heap {
-    blocks: Vec<Block>,
+    blocks: Row,
     /// For each 256 blocks in turn a number that no gap in front of one of them exceeds.
     widest: Vec<u32>,
     /// Room in which a changed list is made.
@@ -35,9 +35,9 @@ impl Model for Heap {
 
     ghost Value = { List Block };
 
-    ghost view = { λ h. h.blocks.items };
+    ghost view = { λ h. h.blocks };
 
-    ghost invariant = { λ h. AreLive h.blocks.items × AreWidest h.blocks.items h.widest.items × (MOST_BLOCKS ≤ vec_capacity h.blocks) × (MOST_BLOCKS ≤ vec_capacity h.spare) };
+    ghost invariant = { λ h. AreLive h.blocks × AreWidest h.blocks h.widest.items × (MOST_BLOCKS ≤ vec_capacity h.spare) };
 }
 
 impl Heap {
@@ -46,7 +46,7 @@ impl Heap {
     pub fn new(alloc: Global) -> Result<Heap, NoMemory>
         ensures empty { IfOk result (λ heap. heap ≡ []) }
     {
-        let blocks = Vec::with_capacity(alloc, MOST_BLOCKS)?;
+        let blocks = Row::new(alloc)?;
         let widest = vec![in alloc; HEAP_END; RUNS]?;
         let spare = Vec::with_capacity(alloc, MOST_BLOCKS)?;
         Ok(Heap {
@@ -65,7 +65,7 @@ impl Heap {
             return Err(HeapError::Bad { index });
         }
         let mut heap = Heap::new(alloc)?;
-        heap.blocks.extend_from_slice(blocks)?;
+        heap.blocks.copy_from(blocks);
         forget(&mut heap.widest);
         Ok(heap)
     }
@@ -111,7 +111,7 @@ impl Heap {
         if size > (HEAP_END - HEAP_START) as u64 {
             return None;
         }
-        first_place(&mut self.widest, &self.blocks, rounded(size))
+        first_place(&mut self.widest, self.blocks.as_slice(), rounded(size))
     }
 
     /// Takes out the block that begins at an address. Address 0 changes nothing; any other where no live block
@@ -137,7 +137,7 @@ impl Heap {
         requires { AreLive since.now }
         ensures changes { IfOk result (AreChanges self.now since.now) }
     {
-        compare(*self.blocks.allocator(), &self.blocks, since)
+        compare(*self.spare.allocator(), self.blocks.as_slice(), since)
     }
 
     /// Tells entries of the blocks. False, with nothing changed, exactly where the entries don't rise by place, take
@@ -147,10 +147,10 @@ impl Heap {
         ensures applies { Applies result self.old self.new entries.now }
         ensures live { AreLive self.new }
     {
-        if !leave(&mut self.spare, &self.blocks, entries) {
+        if !leave(&mut self.spare, self.blocks.as_slice(), entries) {
             return false;
         }
-        mem::swap(&mut self.blocks, &mut self.spare);
+        self.blocks.copy_from(&self.spare);
         forget(&mut self.widest);
         true
     }
@@ -174,53 +174,45 @@ fn first_place(widest: &mut Vec<u32>, blocks: &[Block], need: u32) -> Option<u32
 
 /// Puts a block of this size at the first gap.
 #[tactic(auto, using(crate::proofs::Indexed::live_first))]
-fn put_first(blocks: &mut Vec<Block>, widest: &mut Vec<u32>, need: u32) -> Option<u32>
-    requires live { AreLive blocks.old.items }
-    requires widest { AreWidest blocks.old.items widest.old.items }
-    requires few { vec_len blocks.old < MOST_BLOCKS }
-    requires room { MOST_BLOCKS ≤ vec_capacity blocks.old }
+fn put_first(blocks: &mut Row, widest: &mut Vec<u32>, need: u32) -> Option<u32>
+    requires live { AreLive blocks.old }
+    requires widest { AreWidest blocks.old widest.old.items }
+    requires few { length blocks.old < MOST_BLOCKS }
     requires multiple { need % 16 ≡ 0 }
     requires some { 0 < need }
     requires most { need ≤ HEAP_END - HEAP_START }
-    ensures value { result ≡ first_gap HEAP_START need blocks.old.items }
-    ensures placed { IfSome result (λ place. blocks.new.items ≡ set_block blocks.old.items place need) }
-    ensures none { IfNone result (blocks.new.items ≡ blocks.old.items) }
-    ensures live { AreLive blocks.new.items }
-    ensures widest { AreWidest blocks.new.items widest.new.items }
-    ensures room { MOST_BLOCKS ≤ vec_capacity blocks.new }
+    ensures value { result ≡ first_gap HEAP_START need blocks.old }
+    ensures placed { IfSome result (λ place. blocks.new ≡ set_block blocks.old place need) }
+    ensures none { IfNone result (blocks.new ≡ blocks.old) }
+    ensures live { AreLive blocks.new }
+    ensures widest { AreWidest blocks.new widest.new.items }
 {
-    let Some(gap) = find_gap(widest, blocks, need) else {
+    let Some(gap) = find_gap(widest, blocks.as_slice(), need) else {
         return None;
     };
-    blocks
-        .insert(
-            gap.index,
-            Block {
-                at: gap.at,
-                size: need,
-            },
-        )
-        .unwrap();
-    raise_each(widest, blocks, (gap.index / RUN + 1) * RUN);
+    let block = Block {
+        at: gap.at,
+        size: need,
+    };
+    blocks.insert(gap.index, block);
+    raise_each(widest, blocks.as_slice(), (gap.index / RUN + 1) * RUN);
     Some(gap.at)
 }
 
 /// Takes out the block that begins at an address, and says whether there was one.
 #[tactic(auto, using(crate::proofs::Placing::live_gone))]
-fn take_out(blocks: &mut Vec<Block>, widest: &mut Vec<u32>, addr: u64) -> bool
-    requires live { AreLive blocks.old.items }
-    requires widest { AreWidest blocks.old.items widest.old.items }
-    requires room { MOST_BLOCKS ≤ vec_capacity blocks.old }
-    ensures freed { TakesOut result blocks.old.items blocks.new.items addr }
-    ensures live { AreLive blocks.new.items }
-    ensures widest { AreWidest blocks.new.items widest.new.items }
-    ensures room { MOST_BLOCKS ≤ vec_capacity blocks.new }
+fn take_out(blocks: &mut Row, widest: &mut Vec<u32>, addr: u64) -> bool
+    requires live { AreLive blocks.old }
+    requires widest { AreWidest blocks.old widest.old.items }
+    ensures freed { TakesOut result blocks.old blocks.new addr }
+    ensures live { AreLive blocks.new }
+    ensures widest { AreWidest blocks.new widest.new.items }
 {
-    let Some(index) = find(blocks, addr) else {
+    let Some(index) = find(blocks.as_slice(), addr) else {
         return false;
     };
     blocks.remove(index);
-    raise_each(widest, blocks, index);
-    raise_each(widest, blocks, (index / RUN + 1) * RUN - 1);
+    raise_each(widest, blocks.as_slice(), index);
+    raise_each(widest, blocks.as_slice(), (index / RUN + 1) * RUN - 1);
     true
 }

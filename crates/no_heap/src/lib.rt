@@ -10,6 +10,7 @@ mod index;
 mod laws;
 mod leaving;
 mod merge;
+mod row;
 mod run;
 mod search;
 

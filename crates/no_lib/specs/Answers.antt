@@ -20,6 +20,7 @@ pub record Seen : Type 0 where
   pub heap : List Block
   pub env : Env
 
+-- what an external sees, from its parts
 abbrev pub seen : Regions → (ℕ → Bool) → (ℕ → Bool) → (ℕ → ℕ) → List Block → Env → Seen
 seen r held own byte heap env = record { regions = r; held = held; own = own; byte = byte; heap = heap; env = env }
 

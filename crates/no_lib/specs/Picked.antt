@@ -17,6 +17,7 @@ pub record HasBits (w n : ℕ) : Type 0 where
   pub some : 0 < w
   pub most : w ≤ 64
 
+-- a number doesn't have w bits, or numbers of w bits may not be compared
 abbrev pub Lacks : ℕ → ℕ → Type 0
 Lacks w n = (is_compared_width w && nat_lt n (2 ^ w)) ≡ false
 

@@ -34,3 +34,5 @@ pub mod Staying
 pub mod Widening
 pub mod Slicing
 pub mod Stepping
+pub mod Touching
+pub mod Watched

@@ -55,7 +55,7 @@ small_index P k wide low =
     ap (λ (n : ℕ). extended 32 P n) (mod-eq_of_lt fits) ∙ elim (cases_lt 32 P) [
       | inl lt ↦
           ap (λ (b : Bool). if b then cast_of Rattle.no_ir.specs.declared.instruction.CastOp.TheVariants.SExt 32 P k else k % 2 ^ P) (lt-ltb 32 P lt)
-          ∙ ap (λ (b : Bool). modulo P (if b then pos k else pos k -ℤ pos (2 ^ 32))) (lt-ltb k (2 ^ 31) low) ∙ mod-eq_of_lt below
+          ∙ ap (λ (b : Bool). modulo P (if b then pos k else pos k -ℤ pos (2 ^ 32))) (lt-ltb (2 * k) (2 ^ 32) (omega (arith, low))) ∙ mod-eq_of_lt below
       | inr le ↦
           ap (λ (b : Bool). if b then cast_of Rattle.no_ir.specs.declared.instruction.CastOp.TheVariants.SExt 32 P k else k % 2 ^ P) (le-ltb 32 P le)
           ∙ mod-eq_of_lt below

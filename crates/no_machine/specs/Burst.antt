@@ -45,7 +45,7 @@ pub record HasBurst {M : Type 0} (byte : M → ℕ → ℕ) (held : M → ℕ �
 
 -- ---- what is counted and told
 
--- of why no further instruction was done inside
+-- what a burst tells, by why no further instruction was done inside
 abbrev pub told_of : Stop → Burst
 told_of (stop.Trapped t) = burst.Ended (end.Trapped t)
 told_of (stop.Left (Some n)) = burst.Ended (end.Exited (n % 256))
@@ -56,12 +56,13 @@ told_of stop.Outside = burst.NoMemory
 told_of stop.Grow = burst.Room
 told_of stop.Spent = burst.Stepped
 
+-- what the last instruction counts, by why no further one was done inside
 abbrev pub cost_of : Stop → ℕ
 cost_of (stop.Trapped t) = 1
 cost_of (stop.Left (Some n)) = 1
 cost_of _ = 0
 
--- of what came of an instruction outside
+-- what a burst tells, by what came of an instruction outside
 abbrev pub told_by : Out → Burst
 told_by (out.On at base cost) = burst.Stepped
 told_by (out.Exited status) = burst.Ended (end.Exited status)
@@ -73,6 +74,7 @@ told_by out.WantInput = burst.WantInput
 told_by out.Grow = burst.Room
 told_by out.NoMemory = burst.NoMemory
 
+-- what an instruction outside counts, by what came of it
 abbrev pub cost_by : Out → ℕ
 cost_by (out.On at base cost) = cost
 cost_by (out.Exited status) = 1

@@ -48,6 +48,7 @@ pub record IsReadyBinary (window constants : List ℕ) (w into x y : ℕ) : Type
   pub right : IsNumber window constants w y
   pub result : into < length window
 
+-- an operand of w bits, a width that the conversion goes to, and a result
 pub record IsReadyCast (window constants : List ℕ) (o : CastOp) (w v into x : ℕ) : Type 0 where
   pub some : 0 < w
   pub most : w ≤ 64
@@ -57,10 +58,12 @@ pub record IsReadyCast (window constants : List ℕ) (o : CastOp) (w v into x : 
   pub operand : IsNumber window constants w x
   pub result : into < length window
 
+-- an operand and a result
 pub record IsReadyCopy (window constants : List ℕ) (into x : ℕ) : Type 0 where
   pub operand : IsSlotIn window constants x
   pub result : into < length window
 
+-- a condition, two operands and a result
 pub record IsReadySelect (window constants : List ℕ) (into z x y : ℕ) : Type 0 where
   pub condition : IsSlotIn window constants z
   pub left : IsSlotIn window constants x
@@ -69,6 +72,7 @@ pub record IsReadySelect (window constants : List ℕ) (into z x y : ℕ) : Type
 
 -- ---- memory
 
+-- a width that integers have, an address and a result
 pub record IsReadyLoad (window constants : List ℕ) (w into x : ℕ) : Type 0 where
   pub width : is_width w ≡ true
   pub address : IsSlotIn window constants x
@@ -81,6 +85,7 @@ Loads r held byte big w at into old new (did.WantPage page) = (access r held fal
 Loads r held byte big w at into old new (did.Trapped t) = (access r held false at (bytes_of_width w) ≡ access'.Refused t) × (new ≡ old)
 Loads r held byte big w at into old new _ = ⊥
 
+-- a width that integers have, a value of so many bits, and an address
 pub record IsReadyStore (window constants : List ℕ) (w y x : ℕ) : Type 0 where
   pub width : is_width w ≡ true
   pub value : IsNumber window constants w y
@@ -94,6 +99,7 @@ Stores r held byte after big w at n (did.Trapped t) = (access r held true at (by
 Stores r held byte after big w at n did.NoMemory = after ≡ byte
 Stores r held byte after big w at n _ = ⊥
 
+-- a count, an alignment and a result
 pub record IsReadyAlloca (window constants : List ℕ) (into x align : ℕ) : Type 0 where
   pub count : IsSlotIn window constants x
   pub some : 0 < align
@@ -118,6 +124,7 @@ abbrev pub IsReadyStep : List ℕ → List ℕ → Step → Type 0
 IsReadyStep window constants (step.Index w x stride) = (0 < w) × (w ≤ 64) × IsNumber window constants w x
 IsReadyStep window constants (step.Field offset) = Unit {0}
 
+-- a base address, a range of the table's steps, each ready, and a result
 pub record IsReadyGep (window constants : List ℕ) (code : Code) (pointer into x from to : ℕ) : Type 0 where
   pub some : 0 < pointer
   pub most : pointer ≤ 64
@@ -129,9 +136,11 @@ pub record IsReadyGep (window constants : List ℕ) (code : Code) (pointer into 
 
 -- ---- edges
 
+-- the slot that a move writes, and the number that it writes there
 abbrev pub read_move : List ℕ → List ℕ → Move → ℕ × ℕ
 read_move window constants v = (v.into, value_in window constants v.from)
 
+-- the slots after all of these were written, in order
 abbrev pub write_all : List (ℕ × ℕ) → List ℕ → List ℕ
 write_all [] slots = slots
 write_all (w ∷ ws) slots = write_all ws (slice_set slots w.0 w.1)
@@ -145,9 +154,11 @@ abbrev pub Moves : Bool → List Move → List ℕ → List ℕ → List ℕ →
 Moves true moves constants old new = new ≡ moved moves constants old
 Moves false moves constants old new = new ≡ old
 
+-- a slot to write in the window, and one to read
 abbrev pub IsReadyMove : List ℕ → List ℕ → Move → Type 0
 IsReadyMove window constants v = (v.into < length window) × IsSlotIn window constants v.from
 
+-- an edge that the table has, with a range of the table's moves, each ready
 pub record IsReadyEdge (window constants : List ℕ) (code : Code) (e : ℕ) : Type 0 where
   pub edge : Edge
   pub is : slice_get code.edges e ≡ Some edge
@@ -166,12 +177,14 @@ abbrev pub case_edge : ℕ → ℕ → List Case → ℕ
 case_edge x e [] = e
 case_edge x e (c ∷ more) = if c.number == x then c.edge else case_edge x e more
 
+-- an operand, a range of the table's cases, and the edge that the operand chooses
 pub record IsReadySwitch (window constants : List ℕ) (code : Code) (x e from to : ℕ) : Type 0 where
   pub operand : IsSlotIn window constants x
   pub ordered : from ≤ to
   pub within : to ≤ length code.cases
   pub edge : IsReadyEdge window constants code (case_edge (value_in window constants x) e (slice_range code.cases from to))
 
+-- an operand, and the edge that it chooses
 pub record IsReadyCondBr (window constants : List ℕ) (code : Code) (x e f : ℕ) : Type 0 where
   pub operand : IsSlotIn window constants x
   pub edge : IsReadyEdge window constants code (if value_in window constants x == 1 then e else f)
@@ -235,15 +248,19 @@ pub record Beside : Type 0 where
 abbrev pub IsAside : Beside → Type 0
 IsAside b = (b.after ≡ b.byte) × (b.sp_after ≡ b.sp)
 
+-- what a slot holds, of a window or of the code's constants
 abbrev pub value_at : Code → List ℕ → ℕ → ℕ
 value_at code window x = value_in window code.constants x
 
+-- a binary operator gave its number or its trap; memory and stack pointer stay
 abbrev pub Combines : BinOp → Code → ℕ → ℕ → ℕ → ℕ → Beside → List ℕ → List ℕ → Did → Type 0
 Combines o code w into x y b old new d = IsAside b × Gave (binary_of o w (value_at code old x) (value_at code old y)) into old new d
 
+-- a comparison gave its bit; memory and stack pointer stay
 abbrev pub Compares : Pred → Code → ℕ → ℕ → ℕ → ℕ → Beside → List ℕ → List ℕ → Did → Type 0
 Compares o code w into x y b old new d = IsAside b × Wrote (bit (compare_of o w (value_at code old x) (value_at code old y))) into old new d
 
+-- a conversion gave its number; memory and stack pointer stay
 abbrev pub Converts : CastOp → Code → ℕ → ℕ → ℕ → ℕ → Beside → List ℕ → List ℕ → Did → Type 0
 Converts o code w v into x b old new d = IsAside b × Wrote (cast_of o w v (value_at code old x)) into old new d
 

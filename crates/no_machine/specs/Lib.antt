@@ -11,3 +11,4 @@ pub mod Counted
 pub mod Ran
 pub mod Booted
 pub mod Burst
+pub mod Watching

@@ -117,13 +117,14 @@ Outs p out.NoMemory at base sp slots frames a more s row = IsCalmly p at base sp
 
 -- ---- a call of the library
 
--- it was answered, and its value written; or there was no memory for its arguments
+-- the library answered a call, and its value was written
 pub record IsServed (which : External) (r : Regions) (held own owns held_after : ℕ → Bool) (r_after : Regions) (a : Around) (numbers : List ℕ) (left at base into : ℕ) (slots new : List ℕ) (result : Out) : Type 0 where
   pub told : LibAnswer
   pub means : Means which (external_effect r which numbers left) told (seen r held own a.byte a.heap a.env) (seen r_after held_after owns a.after a.heap_after a.env_after)
   pub is : result ≡ out_of told at base
   pub given : new ≡ given_at (value_of told) (base + into) slots
 
+-- the library answered a call, or there was no memory for the arguments
 abbrev pub Serves : External → Regions → (ℕ → Bool) → (ℕ → Bool) → (ℕ → Bool) → (ℕ → Bool) → Regions → Around → List ℕ → ℕ → ℕ → ℕ → ℕ → List ℕ → List ℕ → Out → Type 0
 Serves which r held own owns held_after r_after a numbers left at base into slots new result =
     IsServed which r held own owns held_after r_after a numbers left at base into slots new result ⊎ ((result ≡ out.NoMemory) × (new ≡ slots) × IsCalm a)
@@ -155,9 +156,11 @@ pub record Stack : Type 0 where
   pub sp : ℕ
   pub after : ℕ
 
+-- neither slots nor callers nor stack pointer have changed
 abbrev pub IsUntouchedStack : Stack → Type 0
 IsUntouchedStack k = IsUntouched k.slots k.new k.frames k.now k.sp k.after
 
+-- what came of a call of a defined function; memory and environment stay
 pub record HasCalledOne (code : Code) (declared : List Bool) (at base into f from to : ℕ) (k : Stack) (a : Around) (result : Out) : Type 0 where
   pub answer : Turn
   pub is : result ≡ out_of_turn answer

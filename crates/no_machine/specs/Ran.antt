@@ -28,10 +28,11 @@ program_of regions a m = program_with a m.addresses (regions m.core.mem)
 abbrev pub memory_of : {M : Type 0} → Machine M → M
 memory_of m = m.core.mem
 
--- what was counted so far, and how much may be
+-- what was counted so far
 abbrev pub count_of : {M : Type 0} → Machine M → ℕ
 count_of m = m.count
 
+-- how much may be counted
 abbrev pub budget_of : {M : Type 0} → Machine M → ℕ
 budget_of m = m.budget
 

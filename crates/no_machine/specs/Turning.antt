@@ -30,6 +30,7 @@ use Rattle.no_machine.specs.declared.turn.Turn.TheVariants as turn
 
 -- ---- programs
 
+-- the program of an accepted module, with the addresses of its globals and the regions of a memory
 abbrev pub program_with : Accepted → List ℕ → Regions → Program
 program_with a addresses regions = record {
   «module» = a.«module»;

@@ -38,7 +38,7 @@ fn is_declared(declared: &[bool], f: u32) -> bool
 }
 
 /// Which external function f is, if it is one.
-fn external_at(externals: &[Option<External>], f: u32) -> Option<External>
+pub(crate) fn external_at(externals: &[Option<External>], f: u32) -> Option<External>
     requires { f < length externals.now }
     ensures { slice_get externals.now f ≡ Some result }
 {

@@ -29,6 +29,7 @@ mod supply;
 mod tables;
 mod turn;
 mod values;
+mod watch;
 
 pub use facts::Facts;
 pub use machine::{Machine, StepAnswer};
@@ -37,3 +38,4 @@ pub use state::Core;
 pub use steps::Steps;
 pub use tables::{declared_of, externals_of};
 pub use turn::Stop;
+pub use watch::{Place, Touch};

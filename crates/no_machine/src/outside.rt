@@ -21,7 +21,7 @@ use no_lib::Env;
 use no_module::External;
 
 /// The slot of an argument.
-fn slot_at(code: &Code, k: u32) -> u32
+pub(crate) fn slot_at(code: &Code, k: u32) -> u32
     requires { k < length code.now.arguments }
     ensures { (a : Argument) → slice_get code.now.arguments k ≡ Some a → result ≡ a.slot }
 {

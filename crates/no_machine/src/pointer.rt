@@ -119,7 +119,7 @@ fn instr_of<'a>(sound: &'a Sound, place: Place) -> Option<&'a Instr>
 }
 
 /// The place of a cell.
-fn place_at(code: &Code, at: usize) -> Place
+pub(crate) fn place_at(code: &Code, at: usize) -> Place
     requires { at < length code.now.places }
     ensures { slice_get code.now.places at ≡ Some result }
 {

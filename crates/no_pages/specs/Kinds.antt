@@ -12,5 +12,6 @@ pub record IsKind (r : Regions) (p : ℕ) (kind : Kind) : Type 0 where
   pub constant : kind ≡ Constant → in_constants r (4096 * p) 4096 ≡ true
   pub writable : kind ≡ Writable → in_written r (4096 * p) 4096 ≡ true
 
+-- each page of a table lies in what its kind tells
 pub record AreKinds (r : Regions) (slots : List Slot) : Type 0 where
   pub each : (p : ℕ) → IsKind r p (get_or slots p nothing).kind

@@ -13,10 +13,12 @@ pub record IsFresh (r : Regions) (present : Bool) (p : ℕ) (s : Slot) : Type 0 
   pub dirty : s.dirty ≡ false
   pub bytes : s.bytes ≡ (if present then Zeros else Absent)
 
+-- n pages as they are made, all present or all absent
 pub record AreFresh (r : Regions) (present : Bool) (n : ℕ) (slots : List Slot) : Type 0 where
   pub count : length slots ≡ n
   pub each : (p : ℕ) → p < n → IsFresh r present p (get_or slots p nothing)
 
+-- a table as it is made for these regions: a page for each number up to the end of the stack
 pub record IsMade (t : PageTable) (r : Regions) (present : Bool) : Type 0 where
   pub regions : t.regions ≡ r
   pub slots : AreFresh r present 131328 t.slots.items

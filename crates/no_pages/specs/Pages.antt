@@ -11,11 +11,14 @@ paged pages a = slice_index (pages (a / 4096)) (a % 4096)
 abbrev pub lists : List ℕ → List Slot → ℕ → List ℕ
 lists zeros slots p = list_of zeros (get_or slots p nothing).bytes
 
+-- whether each page is present
 abbrev pub helds : List Slot → ℕ → Bool
 helds slots p = is_held (get_or slots p nothing).bytes
 
+-- whether each page has bytes of its own
 abbrev pub owns : List Slot → ℕ → Bool
 owns slots p = is_own (get_or slots p nothing).bytes
 
+-- whether each page is marked as written
 abbrev pub dirties : List Slot → ℕ → Bool
 dirties slots p = (get_or slots p nothing).dirty

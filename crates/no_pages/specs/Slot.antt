@@ -7,11 +7,13 @@ use Rattle.no_pages.specs.declared.slot.Bytes.{Bytes}
 use Rattle.no_pages.specs.declared.slot.Bytes.TheVariants.{Absent, Zeros, Own}
 use Rattle.no_pages.specs.declared.slot.Slot.{Slot}
 
+-- a page is present
 abbrev pub is_held : Bytes → Bool
 is_held Absent = false
 is_held Zeros = true
 is_held (Own b) = true
 
+-- a page has bytes of its own, and doesn't share the zeros
 abbrev pub is_own : Bytes → Bool
 is_own Absent = false
 is_own Zeros = false

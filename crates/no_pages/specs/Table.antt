@@ -6,18 +6,23 @@ use Rattle.no_layout.specs.declared.memory.Access.TheVariants.{Done}
 use Rattle.no_pages.specs.Pages.{dirties, helds, lists, owns, paged}
 use Rattle.no_pages.specs.declared.table.PageTable.{PageTable}
 
+-- where the regions of a table's memory end
 abbrev pub regions_of : PageTable → Regions
 regions_of t = t.regions
 
+-- the byte at each address of a table's memory
 abbrev pub byte_of : PageTable → ℕ → ℕ
 byte_of t = paged (lists t.zeros.value t.slots.items)
 
+-- whether each page of a table is present
 abbrev pub held_of : PageTable → ℕ → Bool
 held_of t = helds t.slots.items
 
+-- whether each page of a table has bytes of its own
 abbrev pub own_of : PageTable → ℕ → Bool
 own_of t = owns t.slots.items
 
+-- whether each page of a table is marked as written
 abbrev pub dirty_of : PageTable → ℕ → Bool
 dirty_of t = dirties t.slots.items
 

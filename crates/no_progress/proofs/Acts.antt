@@ -1,5 +1,5 @@
 -- No step from a state of a program is stuck, and each leads to a state of it.
-use Rattle.std.proofs.Common.{◌≡◌, ◌≢◌, ℕ, zero, suc, ◌==◌, nat_lt, Bool, true, false, true≢false, Option, Some, None, option_map, if◌then◌else◌, List, [], ◌∷◌, ◌++◌, map, refl, sym, ap, ◌∙◌, subst}
+use Rattle.std.proofs.Common.{◌≡◌, ◌≢◌, ℕ, zero, suc, ◌==◌, nat_lt, Bool, true, false, true≢false, Option, Some, None, option_map, if◌then◌else◌, List, [], ◌∷◌, flat_map, map, refl, sym, ap, ◌∙◌, subst}
 use Rattle.std.proofs.lemmas.Option.{same_Some}
 use Rattle.no_ir.specs.declared.types.Ty.{Ty}
 use Rattle.no_ir.specs.declared.instruction.Operand.{Operand}
@@ -7,7 +7,8 @@ use Rattle.no_ir.specs.declared.instruction.Op.{Op}
 use Rattle.no_ir.specs.declared.instruction.Op.TheVariants as op
 use Rattle.no_ir.specs.declared.instruction.Instr.{Instr}
 use Rattle.no_layout.specs.Memory.{refusal}
-use Rattle.no_verify_paths.specs.Paths.{registers_of, uses, index_uses, argument_uses, count_uses, value_uses}
+use Rattle.no_module.specs.Instructions.{argument_operands, count_operands, index_operands, is_phi, is_terminator, value_operands}
+use Rattle.no_verify_paths.specs.Paths.{registers_of, uses}
 use Rattle.no_semantics.specs.Registers.{Registers, given, with_front, all_given, operand, operand_of, pointer_of, index_of, argument_of}
 use Rattle.no_semantics.specs.Results.{binary_value, compare_value, cast_value, freeze_value, select_value, gep_value, count_of, alloca_value, load_value, bytes_of_type}
 use Rattle.no_semantics.specs.Rows.{Row, Next, Calling, Goes, Stuck, stuck, charged, unfinished}
@@ -19,7 +20,7 @@ use Rattle.no_semantics.specs.Acting.{row_of_op, row_of_instr, row, step}
 use Rattle.no_semantics.specs.Steps.{Reached, Steps, here, after}
 use Rattle.no_semantics.specs.Values.{Program, width_of, extended}
 use Rattle.no_semantics.proofs.Running.{first_of, IsFirst}
-use Rattle.no_progress.specs.Proper.{Each, bits, CountFits, ReturnFits, OpFits, IsSafe, is_phi, is_last}
+use Rattle.no_progress.specs.Proper.{Each, bits, CountFits, ReturnFits, OpFits, IsSafe}
 use Rattle.no_progress.specs.Valid.{IsStateOf, Fine}
 use Rattle.no_progress.proofs.Reading.{AreHeld, Has, has, held_left, held_right, each_has, each_of_uses}
 use Rattle.no_progress.proofs.Values.{binary_good, compare_good, cast_good, freeze_good, select_good, gep_good, load_good, alloca_place}
@@ -45,22 +46,29 @@ module _ (p : Program) (safe : IsSafe p) where
     abbrev rs : Registers
     rs = s.frame.registers
 
-    -- the left and the right one of two operands' registers
-    left_of : (xs ys : List ℕ) → AreHeld width rs (xs ++ ys) → AreHeld width rs xs
-    left_of xs ys h = held_left width rs xs ys h
+    -- the registers that operands name are held
+    abbrev AreRead : List Operand → Type 0
+    AreRead os = AreHeld width rs (flat_map registers_of os)
 
-    right_of : (xs ys : List ℕ) → AreHeld width rs (xs ++ ys) → AreHeld width rs ys
-    right_of xs ys h = held_right width rs xs ys h
+    -- those of the first operand, and those of the operands after it
+    first_read : (o : Operand) (more : List Operand) → AreRead (o ∷ more) → AreHeld width rs (registers_of o)
+    first_read o more h = held_left width rs (registers_of o) (flat_map registers_of more) h
 
-    count_has : (count : Option (ℕ × Operand)) → CountFits p width count → AreHeld width rs (count_uses count) → (n : ℕ) × (count_of p rs count ≡ Some n)
+    others_read : (o : Operand) (more : List Operand) → AreRead (o ∷ more) → AreRead more
+    others_read o more h = held_right width rs (registers_of o) (flat_map registers_of more) h
+
+    second_read : (a b : Operand) → AreRead (a ∷ b ∷ []) → AreHeld width rs (registers_of b)
+    second_read a b h = first_read b [] (others_read a (b ∷ []) h)
+
+    count_has : (count : Option (ℕ × Operand)) → CountFits p width count → AreRead (count_operands count) → (n : ℕ) × (count_of p rs count ≡ Some n)
     count_has None fits h = (1, refl)
-    count_has (Some count) fits h = let n : Has p rs count.0 count.1 = has p width rs count.0 count.1 fits h in (n.0, n.1)
+    count_has (Some count) fits h = let n : Has p rs count.0 count.1 = has p width rs count.0 count.1 fits (first_read count.1 [] h) in (n.0, n.1)
 
-    returning : (result : Ty) (value : Option (Ty × Operand)) → result ≡ is.frame.function.result → ReturnFits p width result value → AreHeld width rs (value_uses value) → Fine p safe (row_ret p value s).next
+    returning : (result : Ty) (value : Option (Ty × Operand)) → result ≡ is.frame.function.result → ReturnFits p width result value → AreRead (value_operands value) → Fine p safe (row_ret p value s).next
     unfolding row_ret
     returning result None same fits h = returns p safe s is None s.callers is.callers (subst (λ (t : Ty). ValueFits (bits p t) None) same (subst (λ (o : Option ℕ). ValueFits o None) (sym fits) tt))
     returning result (Some x) same fits h =
-        let n : Has p rs (width_of p.layout x.0) x.1 = has p width rs (width_of p.layout x.0) x.1 fits.1 h in
+        let n : Has p rs (width_of p.layout x.0) x.1 = has p width rs (width_of p.layout x.0) x.1 fits.1 (first_read x.1 [] h) in
         reads_fine p safe s is (argument_of p rs x) (λ n. row_return p (Some n) s) n.0 n.1
         (returns p safe s is (Some n.0) s.callers is.callers (subst (λ (t : Ty). ValueFits (bits p t) (Some n.0)) same (subst (λ (o : Option ℕ). ValueFits o (Some n.0)) (sym fits.0) n.2)))
 
@@ -68,49 +76,49 @@ module _ (p : Program) (safe : IsSafe p) where
     acts : (o : Op) → is.frame.instr.op ≡ o → OpFits p is.frame.function width s.frame.block is.frame.instr.result o → AreHeld width rs (uses o) → is_phi o ≡ false
         → Fine p safe (row_of_op p is.frame.instr.result o s).next
     unfolding uses row_alloca row_load row_store row_call row_br row_cond_br row_switch arguments_of
-    acts (op.Binary o w a b) at fits h plain = computes p safe s is (binary_value p rs o w a b) w (ap is_last at) fits.2
-        (binary_good p rs o w a b (has p width rs w a fits.0 (left_of (registers_of a) (registers_of b) h)) (has p width rs w b fits.1 (right_of (registers_of a) (registers_of b) h)))
-    acts (op.Compare o t a b) at fits h plain = computes p safe s is (compare_value p rs o t a b) 1 (ap is_last at) fits.2
-        (compare_good p rs o t a b (has p width rs (width_of p.layout t) a fits.0 (left_of (registers_of a) (registers_of b) h)) (has p width rs (width_of p.layout t) b fits.1 (right_of (registers_of a) (registers_of b) h)))
-    acts (op.Cast o t a u) at fits h plain = computes p safe s is (cast_value p rs o t a u) (width_of p.layout u) (ap is_last at) fits.2
-        (cast_good p rs o t a u (has p width rs (width_of p.layout t) a fits.0 h) fits.1)
-    acts (op.Freeze t a) at fits h plain = computes p safe s is (freeze_value p rs t a) (width_of p.layout t) (ap is_last at) fits.1
-        (freeze_good p rs t a (has p width rs (width_of p.layout t) a fits.0 h))
-    acts (op.Select c t a b) at fits h plain = computes p safe s is (select_value p rs c t a b) (width_of p.layout t) (ap is_last at) fits.3
-        (select_good p rs c t a b (has p width rs 1 c fits.0 (left_of (registers_of c) (registers_of a) (left_of (registers_of c ++ registers_of a) (registers_of b) h)))
-        (has p width rs (width_of p.layout t) a fits.1 (right_of (registers_of c) (registers_of a) (left_of (registers_of c ++ registers_of a) (registers_of b) h)))
-        (has p width rs (width_of p.layout t) b fits.2 (right_of (registers_of c ++ registers_of a) (registers_of b) h)))
+    acts (op.Binary o w a b) at fits h plain = computes p safe s is (binary_value p rs o w a b) w (ap is_terminator at) fits.2
+        (binary_good p rs o w a b (has p width rs w a fits.0 (first_read a (b ∷ []) h)) (has p width rs w b fits.1 (second_read a b h)))
+    acts (op.Compare o t a b) at fits h plain = computes p safe s is (compare_value p rs o t a b) 1 (ap is_terminator at) fits.2
+        (compare_good p rs o t a b (has p width rs (width_of p.layout t) a fits.0 (first_read a (b ∷ []) h)) (has p width rs (width_of p.layout t) b fits.1 (second_read a b h)))
+    acts (op.Cast o t a u) at fits h plain = computes p safe s is (cast_value p rs o t a u) (width_of p.layout u) (ap is_terminator at) fits.2
+        (cast_good p rs o t a u (has p width rs (width_of p.layout t) a fits.0 (first_read a [] h)) fits.1)
+    acts (op.Freeze t a) at fits h plain = computes p safe s is (freeze_value p rs t a) (width_of p.layout t) (ap is_terminator at) fits.1
+        (freeze_good p rs t a (has p width rs (width_of p.layout t) a fits.0 (first_read a [] h)))
+    acts (op.Select c t a b) at fits h plain = computes p safe s is (select_value p rs c t a b) (width_of p.layout t) (ap is_terminator at) fits.3
+        (select_good p rs c t a b (has p width rs 1 c fits.0 (first_read c (a ∷ b ∷ []) h))
+        (has p width rs (width_of p.layout t) a fits.1 (first_read a (b ∷ []) (others_read c (a ∷ b ∷ []) h)))
+        (has p width rs (width_of p.layout t) b fits.2 (second_read a b (others_read c (a ∷ b ∷ []) h))))
     acts (op.Phi t pairs) at fits h plain = absurd (true≢false plain)
     acts (op.Alloca t count align) at fits h plain =
         let n = count_has count fits.0 h in
-        allocates p safe s is (alloca_value p rs s.sp t count align) (ap is_last at) fits.1 (alloca_place p rs s.sp t count align n.0 is.sp.1 n.1)
+        allocates p safe s is (alloca_value p rs s.sp t count align) (ap is_terminator at) fits.1 (alloca_place p rs s.sp t count align n.0 is.sp.1 n.1)
     acts (op.Load volatile t a) at fits h plain =
-        let x : Has p rs p.layout.pointer a = has p width rs p.layout.pointer a fits.0 h in
+        let x : Has p rs p.layout.pointer a = has p width rs p.layout.pointer a fits.0 (first_read a [] h) in
         reads_fine p safe s is (pointer_of p rs a) (λ at. fetched is.frame.instr.result (load_value p rs s.byte t a) at (bytes_of_type p t) s) x.0 x.1
-        (fetches p safe s is (load_value p rs s.byte t a) (width_of p.layout t) x.0 (bytes_of_type p t) (ap is_last at) fits.1 (load_good p rs s.byte t a x))
+        (fetches p safe s is (load_value p rs s.byte t a) (width_of p.layout t) x.0 (bytes_of_type p t) (ap is_terminator at) fits.1 (load_good p rs s.byte t a x))
     acts (op.Store volatile t v a) at fits h plain =
-        let y : Has p rs (width_of p.layout t) v = has p width rs (width_of p.layout t) v fits.0 (left_of (registers_of v) (registers_of a) h) in
-        let x : Has p rs p.layout.pointer a = has p width rs p.layout.pointer a fits.1 (right_of (registers_of v) (registers_of a) h) in
+        let y : Has p rs (width_of p.layout t) v = has p width rs (width_of p.layout t) v fits.0 (first_read v (a ∷ []) h) in
+        let x : Has p rs p.layout.pointer a = has p width rs p.layout.pointer a fits.1 (second_read v a h) in
         reads_fine p safe s is (pointer_of p rs a) (λ at. given stuck (operand_of p rs t v) (λ n. stored p at (bytes_of_type p t) n s (refusal p.regions true at (bytes_of_type p t)))) x.0 x.1
         (reads_fine p safe s is (operand_of p rs t v) (λ n. stored p x.0 (bytes_of_type p t) n s (refusal p.regions true x.0 (bytes_of_type p t))) y.0 y.1
-        (stores p safe s is x.0 (bytes_of_type p t) y.0 (refusal p.regions true x.0 (bytes_of_type p t)) (ap is_last at) fits.2))
+        (stores p safe s is x.0 (bytes_of_type p t) y.0 (refusal p.regions true x.0 (bytes_of_type p t)) (ap is_terminator at) fits.2))
     acts (op.Gep t a indices) at fits h plain =
-        let x : Has p rs p.layout.pointer a = has p width rs p.layout.pointer a fits.0 (left_of (registers_of a) (index_uses indices) h) in
-        let ns = indices_given rs indices (each_of_uses p width rs (λ (i : ℕ × Operand). i.0) (λ (i : ℕ × Operand). i.1) indices fits.1 (right_of (registers_of a) (index_uses indices) h)) in
-        computes p safe s is (gep_value p rs t a indices) p.layout.pointer (ap is_last at) fits.2 (gep_good p rs t a indices ns.0 x ns.1)
+        let x : Has p rs p.layout.pointer a = has p width rs p.layout.pointer a fits.0 (first_read a (index_operands indices) h) in
+        let ns = indices_given rs indices (each_of_uses p width rs (λ (i : ℕ × Operand). i.0) (λ (i : ℕ × Operand). i.1) indices fits.1 (others_read a (index_operands indices) h)) in
+        computes p safe s is (gep_value p rs t a indices) p.layout.pointer (ap is_terminator at) fits.2 (gep_good p rs t a indices ns.0 x ns.1)
     acts (op.Call t callee args) at fits h plain =
-        let each = each_of_uses p width rs (λ (a : Ty × Operand). width_of p.layout a.0) (λ (a : Ty × Operand). a.1) args fits.1 (right_of (registers_of callee) (argument_uses args) h) in
+        let each = each_of_uses p width rs (λ (a : Ty × Operand). width_of p.layout a.0) (λ (a : Ty × Operand). a.1) args fits.1 (others_read callee (argument_operands args) h) in
         let ns = each_has p rs (λ (a : Ty × Operand). width_of p.layout a.0) (λ (a : Ty × Operand). a.1) args each in
         call_fine p safe s is t callee args at fits.2 (callee_value p rs t callee args)
-        (callee_good p safe rs width t callee args fits.0 (λ reads. has p width rs p.layout.pointer callee reads (left_of (registers_of callee) (argument_uses args) h)))
+        (callee_good p safe rs width t callee args fits.0 (λ reads. has p width rs p.layout.pointer callee reads (first_read callee (argument_operands args) h)))
         ns.0 ns.1 ns.2
-    acts (op.Br l) at fits h plain = lands p safe s is (ap is_last at) l fits
+    acts (op.Br l) at fits h plain = lands p safe s is (ap is_terminator at) l fits
     acts (op.CondBr c l k) at fits h plain =
-        let x : Has p rs 1 c = has p width rs 1 c fits.0 h in
-        reads_fine p safe s is (operand p 1 rs c) (λ x. go p s (if x == 1 then l else k)) x.0 x.1 (chooses p safe s is (ap is_last at) (x.0 == 1) l k fits.1 fits.2)
+        let x : Has p rs 1 c = has p width rs 1 c fits.0 (first_read c [] h) in
+        reads_fine p safe s is (operand p 1 rs c) (λ x. go p s (if x == 1 then l else k)) x.0 x.1 (chooses p safe s is (ap is_terminator at) (x.0 == 1) l k fits.1 fits.2)
     acts (op.Switch w a l cs) at fits h plain =
-        let x : Has p rs w a = has p width rs w a fits.0 h in
-        reads_fine p safe s is (operand p w rs a) (λ x. go p s (case_label x l cs)) x.0 x.1 (switches p safe s is (ap is_last at) x.0 l cs fits.1 fits.2)
+        let x : Has p rs w a = has p width rs w a fits.0 (first_read a [] h) in
+        reads_fine p safe s is (operand p w rs a) (λ x. go p s (case_label x l cs)) x.0 x.1 (switches p safe s is (ap is_terminator at) x.0 l cs fits.1 fits.2)
     acts (op.Ret value) at fits h plain = returning is.frame.function.result value refl fits h
     acts op.Unreachable at fits h plain = tt
 

@@ -6,6 +6,7 @@ use Rattle.no_ir.specs.declared.ending.Trap.TheVariants.{BadFunction}
 use Rattle.no_ir.specs.declared.instruction.Operand.{Operand}
 use Rattle.no_ir.specs.declared.instruction.Op.TheVariants as op
 use Rattle.no_ir.specs.declared.function.Function.{Function}
+use Rattle.no_module.specs.Instructions.{is_terminator}
 use Rattle.no_module.specs.declared.external.External.{External}
 use Rattle.no_module.specs.declared.external.External.TheVariants as external
 use Rattle.no_module.specs.declared.scalar.Scalar.TheVariants as scalar
@@ -23,7 +24,7 @@ use Rattle.no_semantics.specs.Control.{arrived}
 use Rattle.no_semantics.specs.Taken.{is_callable}
 use Rattle.no_semantics.specs.Calls.{are_passed, has_type, function_number, pointed, at_address, callee_by, callee_value, arguments_of, entered, world_of, effect_next, outcome_row, row_effect, has_address, addressed_from, mapped, row_map, row_room, row_external, invoked, calling}
 use Rattle.no_semantics.specs.Values.{Program}
-use Rattle.no_progress.specs.Proper.{Reads, Gives, bits, Answers, IsDirect, CalleeFits, IsSafe, is_last}
+use Rattle.no_progress.specs.Proper.{Reads, Gives, bits, Answers, IsDirect, CalleeFits, IsSafe}
 use Rattle.no_progress.specs.Valid.{IsStateOf, Fine}
 use Rattle.no_progress.proofs.Reading.{Has, AreBelow}
 use Rattle.no_progress.proofs.Values.{lowered_place}
@@ -79,8 +80,8 @@ module _ (p : Program) (safe : IsSafe p) where
 
   module _ (s : State) (is : IsStateOf p safe s) (t : Ty) (callee : Operand) (args : List (Ty × Operand)) (at : is.frame.instr.op ≡ op.Call t callee args)
       (answers : Answers (length is.frame.function.registers) (fine p safe s.frame is.frame).width is.frame.instr.result (bits p t)) where
-    goes : is_last is.frame.instr.op ≡ false
-    goes = ap is_last at
+    goes : is_terminator is.frame.instr.op ≡ false
+    goes = ap is_terminator at
 
     -- the call is answered
     answering : (value : Option ℕ) → ValueFits (bits p t) value → Answered p safe s.frame is.frame.instr.result value

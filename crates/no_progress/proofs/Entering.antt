@@ -12,11 +12,12 @@ use Rattle.no_ir.specs.declared.function.Block.{Block}
 use Rattle.no_ir.specs.declared.function.Function.{Function}
 use Rattle.no_layout.specs.Memory.{stack_start, stack_end}
 use Rattle.no_layout.specs.declared.layout.Layout.{Layout}
+use Rattle.no_module.specs.Instructions.{is_phi}
 use Rattle.no_module.specs.declared.scalar.Scalar.{Scalar}
 use Rattle.no_module.specs.declared.scalar.Scalar.TheVariants as scalar
 use Rattle.no_module.specs.Scalars.{integer, scalar_step, scalar_of, agree, void_step, is_void, same_result}
 use Rattle.no_module.specs.Widths.{is_width}
-use Rattle.no_module.specs.Functions.{is_declared, no_read_blocks}
+use Rattle.no_module.specs.Functions.{is_declared, has_no_blocks}
 use Rattle.no_verify_paths.specs.Paths.{code_in, code_of, assigns, is_among, is_parameter}
 use Rattle.no_semantics.specs.Registers.{Registers, given}
 use Rattle.no_semantics.specs.Rows.{plain, trapping}
@@ -24,7 +25,7 @@ use Rattle.no_semantics.specs.States.{Frame, State, function_at, put}
 use Rattle.no_semantics.specs.Control.{phi_count}
 use Rattle.no_semantics.specs.Calls.{call_room, is_passed, are_passed, passed, unassigned, entry_frame, called, entered}
 use Rattle.no_semantics.specs.Values.{Program, width_of, width_step}
-use Rattle.no_progress.specs.Proper.{Each, bits, IsProper, IsSafe, is_phi}
+use Rattle.no_progress.specs.Proper.{Each, bits, IsProper, IsSafe}
 use Rattle.no_progress.specs.Valid.{Held, IsOnStack, IsFrameOf, IsCallerOf, AreCallers, IsStateOf, Fine}
 use Rattle.no_progress.proofs.Reading.{AreBelow, put_here, put_kept}
 use Rattle.no_progress.proofs.Frames.{or2, count_none, at_begin}
@@ -129,7 +130,7 @@ passes p count width (q ∷ params) (n ∷ ns) rs long fits small =
 
 -- ---- entries
 
-first_block : (blocks : List Block) → no_read_blocks blocks ≡ false → (b : Block) × (slice_get blocks 0 ≡ Some b)
+first_block : (blocks : List Block) → has_no_blocks blocks ≡ false → (b : Block) × (slice_get blocks 0 ≡ Some b)
 first_block [] e = absurd (true≢false e)
 first_block (b ∷ more) e = (b, refl)
 

@@ -12,13 +12,14 @@ use Rattle.no_ir.specs.declared.instruction.Op.TheVariants as op
 use Rattle.no_ir.specs.declared.instruction.Instr.{Instr}
 use Rattle.no_ir.specs.declared.function.Block.{Block}
 use Rattle.no_ir.specs.declared.function.Function.{Function}
+use Rattle.no_module.specs.Instructions.{is_phi, is_terminator}
 use Rattle.no_module.specs.Functions.{is_declared}
 use Rattle.no_verify_paths.specs.Paths.{registers_of, uses, phi_uses, pair_use, code_in, code_of, uses_in, uses_at, PathTo, is_result, assigns, assigned, assigned_at}
 use Rattle.no_semantics.specs.Registers.{Registers, given, with_front, operand_of}
 use Rattle.no_semantics.specs.States.{Frame, function_at, instr_at, put, put_into, moved, assigned as given_result}
 use Rattle.no_semantics.specs.Control.{Move, taken, with_register, phi_moves, one_more, phi_count, put_all}
 use Rattle.no_semantics.specs.Values.{Program, width_of}
-use Rattle.no_progress.specs.Proper.{Each, Reads, Gives, Idle, PhiFits, FrontFits, EdgeFits, IsProper, IsSafe, is_phi, is_last}
+use Rattle.no_progress.specs.Proper.{Each, Reads, Gives, Idle, PhiFits, FrontFits, EdgeFits, IsProper, IsSafe}
 use Rattle.no_progress.specs.Valid.{Held, IsOnStack, IsFrameOf}
 use Rattle.no_progress.proofs.Reading.{AreHeld, Has, has, put_here, put_kept}
 
@@ -170,7 +171,7 @@ module _ (p : Program) (count : ℕ) (width : ℕ → Option ℕ) (rs : Register
 -- ---- behind the phis of a block stands an instruction, and no phi
 
 -- a phi ends no block
-phi_goes_on : (o : Op) → is_phi o ≡ true → is_last o ≡ false
+phi_goes_on : (o : Op) → is_phi o ≡ true → is_terminator o ≡ false
 phi_goes_on (op.Phi t pairs) e = refl
 phi_goes_on (op.Binary x w a b) e = absurd (true≢false (sym e))
 phi_goes_on (op.Compare x t a b) e = absurd (true≢false (sym e))
@@ -239,7 +240,7 @@ module _ (p : Program) (safe : IsSafe p) where
     used r c = of.holds r ((fine.paths f.block f.at).here of.before r of.path (subst (λ (o : Option Instr). Contains (uses_in o) r) (sym of.instr_is) c))
 
     -- the frame at the next place of its block
-    pub further : is_last of.instr.op ≡ false → (rs : Registers) → length rs ≡ length f.registers → ((r : ℕ) → Held fine.width f.registers r → Held fine.width rs r)
+    pub further : is_terminator of.instr.op ≡ false → (rs : Registers) → length rs ≡ length f.registers → ((r : ℕ) → Held fine.width f.registers r → Held fine.width rs r)
         → ((r : ℕ) → is_result r of.instr.result ≡ true → Held fine.width rs r) → IsFrameOf p safe (record f { at = f.at + 1; registers = rs })
     further goes rs long old new =
         let next : (i : Instr) × (slice_get (code_of of.function f.block) (f.at + 1) ≡ Some i) = found (code_of of.function f.block) (f.at + 1) (fine.inner f.block f.at of.instr of.instr_is goes) in
@@ -258,7 +259,7 @@ module _ (p : Program) (safe : IsSafe p) where
         }
 
     -- with a result, and without
-    pub assigning : is_last of.instr.op ≡ false → (w n : ℕ) → Gives (length of.function.registers) fine.width of.instr.result w → n < 2 ^ w → IsFrameOf p safe (given_result of.instr.result n f)
+    pub assigning : is_terminator of.instr.op ≡ false → (w n : ℕ) → Gives (length of.function.registers) fine.width of.instr.result w → n < 2 ^ w → IsFrameOf p safe (given_result of.instr.result n f)
     assigning goes w n gives small = further goes (put_into of.instr.result n f.registers) (put_into_long of.instr.result n f.registers)
         (λ r h. put_into_kept (length of.function.registers) w fine.width of.instr.result n r f.registers gives small h)
         (λ r e. put_into_new (length of.function.registers) w fine.width of.instr.result n r f.registers (sym of.long) gives small e)
@@ -270,11 +271,11 @@ module _ (p : Program) (safe : IsSafe p) where
     idle_held : (rs : Registers) (r : ℕ) → is_result r of.instr.result ≡ true → Idle fine.width of.instr.result → Held fine.width rs r
     idle_held rs r e idle w is = absurd (none-some w (sym (none_read of.instr.result r e idle) ∙ is))
 
-    pub passing : is_last of.instr.op ≡ false → Idle fine.width of.instr.result → IsFrameOf p safe (moved f)
+    pub passing : is_terminator of.instr.op ≡ false → Idle fine.width of.instr.result → IsFrameOf p safe (moved f)
     passing goes idle = further goes f.registers refl (λ r h. h) (λ r e. idle_held f.registers r e idle)
 
     -- at the end of a block all that the block assigns is held, and the path goes on
-    module _ (ends : is_last of.instr.op ≡ true) where
+    module _ (ends : is_terminator of.instr.op ≡ true) where
       pub whole : (r : ℕ) → assigned of.function (f.block ∷ of.before) r ≡ true → Held fine.width f.registers r
       whole r e =
           let end : f.at + 1 ≡ length (code_of of.function f.block) = fine.last f.block f.at of.instr of.instr_is ends in

@@ -65,11 +65,11 @@ each_has p rs w o (x ∷ xs) h =
     )
 
 pub each_of_uses : {A : Type 0} (p : Program) (width : ℕ → Option ℕ) (rs : Registers) (w : A → ℕ) (o : A → Operand) (xs : List A) → Each (λ (x : A). Reads p width (w x) (o x)) xs
-    → AreHeld width rs (flat_map (λ (x : A). registers_of (o x)) xs) → Each (λ (x : A). Has p rs (w x) (o x)) xs
+    → AreHeld width rs (flat_map registers_of (map o xs)) → Each (λ (x : A). Has p rs (w x) (o x)) xs
 each_of_uses p width rs w o [] reads h = tt
 each_of_uses p width rs w o (x ∷ xs) reads h = (
-  has p width rs (w x) (o x) reads.0 (held_left width rs (registers_of (o x)) (flat_map (λ x. registers_of (o x)) xs) h),
-  each_of_uses p width rs w o xs reads.1 (held_right width rs (registers_of (o x)) (flat_map (λ x. registers_of (o x)) xs) h),
+  has p width rs (w x) (o x) reads.0 (held_left width rs (registers_of (o x)) (flat_map registers_of (map o xs)) h),
+  each_of_uses p width rs w o xs reads.1 (held_right width rs (registers_of (o x)) (flat_map registers_of (map o xs)) h),
 )
 
 -- ---- registers that are assigned

@@ -5,6 +5,7 @@ use Rattle.no_ir.specs.declared.ending.Trap.{Trap}
 use Rattle.no_ir.specs.declared.instruction.Instr.{Instr}
 use Rattle.no_ir.specs.declared.function.Block.{Block}
 use Rattle.no_ir.specs.declared.function.Function.{Function}
+use Rattle.no_module.specs.Instructions.{is_terminator}
 use Rattle.no_heap.specs.declared.block.Block as heap'
 use Rattle.no_heap.specs.Blocks.{AreLive}
 use Rattle.no_verify_paths.specs.Paths.{phi_uses_in, phi_uses_at, code_in, code_of}
@@ -16,7 +17,7 @@ use Rattle.no_semantics.specs.Control.{phi_count, put_all, landed, at_block, fro
 use Rattle.no_semantics.specs.Access.{allocated, fetched, stored}
 use Rattle.no_semantics.specs.Calls.{returned_in, returned}
 use Rattle.no_semantics.specs.Values.{Program}
-use Rattle.no_progress.specs.Proper.{Each, Gives, Idle, bits, Answers, IsTarget, IsProper, IsSafe, is_last}
+use Rattle.no_progress.specs.Proper.{Each, Gives, Idle, bits, Answers, IsTarget, IsProper, IsSafe}
 use Rattle.no_progress.specs.Valid.{IsOnStack, IsFrameOf, IsCallerOf, AreCallers, IsStateOf, Fine}
 use Rattle.no_progress.proofs.Values.{Good, IsPlace, stack_small}
 use Rattle.no_progress.proofs.Frames.{instr_found, put_all_long, put_all_kept, put_all_new, Landing, land, PhisHeld, fine, assigning, passing, whole, at_begin}
@@ -47,7 +48,7 @@ module _ (p : Program) (safe : IsSafe p) where
   idle_none : (width : ℕ → Option ℕ) (into : Option ℕ) → into ≡ None → Idle width into
   idle_none width into e r is = absurd (none-some r (sym e ∙ is))
 
-  pub answer : (c : Frame) (st : IsFrameOf p safe c) → is_last st.instr.op ≡ false → (into : Option ℕ) → st.instr.result ≡ into → (given' value : Option ℕ) → ValueFits given' value
+  pub answer : (c : Frame) (st : IsFrameOf p safe c) → is_terminator st.instr.op ≡ false → (into : Option ℕ) → st.instr.result ≡ into → (given' value : Option ℕ) → ValueFits given' value
       → Answers (length st.function.registers) (fine p safe c st).width into given' → Answered c into value
   answer c st goes None e given' value fits answers = record { frame = moved c; is = refl; same = refl; of = passing p safe c st goes (idle_none (fine p safe c st).width st.instr.result e) }
   answer c st goes (Some r) e (Some w) (Some n) fits answers = record {
@@ -66,22 +67,22 @@ module _ (p : Program) (safe : IsSafe p) where
         → IsStateOf p safe (record { frame = f; callers = s.callers; sp = sp; byte = byte; heap = heap; input = input })
     stays f same of sp on byte heap live input bytes = state_of f is.frame.function s.callers sp byte heap input (ap (function_at p) same ∙ is.frame.function_is) of is.callers on live bytes
 
-    pub computes : (v : Valued) (w : ℕ) → is_last is.frame.instr.op ≡ false → Gives (length is.frame.function.registers) (fine p safe s.frame is.frame).width is.frame.instr.result w → Good w v → Fine p safe (computed is.frame.instr.result v s).next
+    pub computes : (v : Valued) (w : ℕ) → is_terminator is.frame.instr.op ≡ false → Gives (length is.frame.function.registers) (fine p safe s.frame is.frame).width is.frame.instr.result w → Good w v → Fine p safe (computed is.frame.instr.result v s).next
     computes (Number n) w goes gives good = stays (given_result is.frame.instr.result n s.frame) refl (assigning p safe s.frame is.frame goes w n gives good) s.sp is.sp s.byte s.heap is.heap s.input is.input
     computes (Traps t) w goes gives good = tt
     computes NoValue w goes gives good = absurd good
 
-    pub allocates : (v : Valued) → is_last is.frame.instr.op ≡ false → Gives (length is.frame.function.registers) (fine p safe s.frame is.frame).width is.frame.instr.result p.layout.pointer → IsPlace v → Fine p safe (allocated is.frame.instr.result v s).next
+    pub allocates : (v : Valued) → is_terminator is.frame.instr.op ≡ false → Gives (length is.frame.function.registers) (fine p safe s.frame is.frame).width is.frame.instr.result p.layout.pointer → IsPlace v → Fine p safe (allocated is.frame.instr.result v s).next
     allocates (Number n) goes gives good = stays (given_result is.frame.instr.result n s.frame) refl (assigning p safe s.frame is.frame goes p.layout.pointer n gives (stack_small p.layout.pointer n safe.pointer good)) n good s.byte s.heap is.heap s.input is.input
     allocates (Traps t) goes gives good = tt
     allocates NoValue goes gives good = absurd good
 
-    pub fetches : (v : Valued) (w at size : ℕ) → is_last is.frame.instr.op ≡ false → Gives (length is.frame.function.registers) (fine p safe s.frame is.frame).width is.frame.instr.result w → Good w v → Fine p safe (fetched is.frame.instr.result v at size s).next
+    pub fetches : (v : Valued) (w at size : ℕ) → is_terminator is.frame.instr.op ≡ false → Gives (length is.frame.function.registers) (fine p safe s.frame is.frame).width is.frame.instr.result w → Good w v → Fine p safe (fetched is.frame.instr.result v at size s).next
     fetches (Number n) w at size goes gives good = computes (Number n) w goes gives good
     fetches (Traps t) w at size goes gives good = tt
     fetches NoValue w at size goes gives good = absurd good
 
-    pub stores : (at size n : ℕ) (o : Option Trap) → is_last is.frame.instr.op ≡ false → Idle (fine p safe s.frame is.frame).width is.frame.instr.result → Fine p safe (stored p at size n s o).next
+    pub stores : (at size n : ℕ) (o : Option Trap) → is_terminator is.frame.instr.op ≡ false → Idle (fine p safe s.frame is.frame).width is.frame.instr.result → Fine p safe (stored p at size n s o).next
     stores at size n (Some t) goes idle = tt
     stores at size n None goes idle = stays (moved s.frame) refl (passing p safe s.frame is.frame goes idle) s.sp is.sp _ s.heap is.heap s.input is.input
 
@@ -91,7 +92,7 @@ module _ (p : Program) (safe : IsSafe p) where
 
     -- ---- branches
 
-    pub lands : is_last is.frame.instr.op ≡ true → (l : ℕ) → IsTarget p is.frame.function (fine p safe s.frame is.frame).width s.frame.block l → Fine p safe (go p s l).next
+    pub lands : is_terminator is.frame.instr.op ≡ true → (l : ℕ) → IsTarget p is.frame.function (fine p safe s.frame is.frame).width s.frame.block l → Fine p safe (go p s l).next
     unfolding branched phi_uses_at code_of
     lands ends l t =
         let good : IsProper p is.frame.function = fine p safe s.frame is.frame in
@@ -113,12 +114,12 @@ module _ (p : Program) (safe : IsSafe p) where
         (λ r h. put_all_new count good.width landing.moves s.frame.registers r (sym is.frame.long) landing.fit (landing.assign r ∙ h)) in
         subst (λ (o : Option Frame). Fine p safe (arrived s o).next) (sym found_it) (stays f refl of s.sp is.sp s.byte s.heap is.heap s.input is.input)
 
-    pub chooses : is_last is.frame.instr.op ≡ true → (b : Bool) (l k : ℕ) → IsTarget p is.frame.function (fine p safe s.frame is.frame).width s.frame.block l → IsTarget p is.frame.function (fine p safe s.frame is.frame).width s.frame.block k
+    pub chooses : is_terminator is.frame.instr.op ≡ true → (b : Bool) (l k : ℕ) → IsTarget p is.frame.function (fine p safe s.frame is.frame).width s.frame.block l → IsTarget p is.frame.function (fine p safe s.frame is.frame).width s.frame.block k
         → Fine p safe (go p s (if b then l else k)).next
     chooses ends true l k t u = lands ends l t
     chooses ends false l k t u = lands ends k u
 
-    pub switches : is_last is.frame.instr.op ≡ true → (x l : ℕ) (cs : List (ℕ × ℕ)) → IsTarget p is.frame.function (fine p safe s.frame is.frame).width s.frame.block l
+    pub switches : is_terminator is.frame.instr.op ≡ true → (x l : ℕ) (cs : List (ℕ × ℕ)) → IsTarget p is.frame.function (fine p safe s.frame is.frame).width s.frame.block l
         → Each (λ (c : ℕ × ℕ). IsTarget p is.frame.function (fine p safe s.frame is.frame).width s.frame.block c.1) cs → Fine p safe (go p s (case_label x l cs)).next
     switches ends x l [] t ts = lands ends l t
     switches ends x l (c ∷ more) t ts = by_case (c.0 == x) (switches ends x l more t ts.1)
@@ -133,7 +134,7 @@ module _ (p : Program) (safe : IsSafe p) where
     returns value [] callers fits = tt
     returns value (c ∷ cs) callers fits =
         let w : IsCallerOf p safe (bits p is.frame.function.result) c = callers.0 in
-        let goes : is_last w.stands.instr.op ≡ false = ap is_last w.is_call in
+        let goes : is_terminator w.stands.instr.op ≡ false = ap is_terminator w.is_call in
         let a : Answered c w.stands.instr.result value = answer c w.stands goes w.stands.instr.result refl (bits p is.frame.function.result) value fits w.answers in
         let found_it : given None (instr_at p c) (λ (i : Instr). answered i.result value c) ≡ Some a.frame =
         ap (λ (o : Option Instr). given None o (λ (i : Instr). answered i.result value c)) (instr_found p c w.stands.function w.stands.function_is ∙ w.stands.instr_is) ∙ a.is in

@@ -1,5 +1,5 @@
 -- What the verifier finds of a program, function by function and instruction by instruction, in the form that runs need.
-use Rattle.std.specs.Prelude.{ℕ, ◌+◌, ◌<◌, ◌≤◌, ◌≡◌, Bool, true, false, List, [], ◌∷◌, length, slice_get, Option, Some, None, if◌then◌else◌}
+use Rattle.std.specs.Prelude.{ℕ, ◌+◌, ◌<◌, ◌≤◌, ◌≡◌, true, false, List, [], ◌∷◌, length, slice_get, Option, Some, None, if◌then◌else◌}
 use Rattle.std.specs.List.{Contains}
 use Rattle.no_ir.specs.declared.types.Ty.{Ty}
 use Rattle.no_ir.specs.declared.instruction.Operand.{Operand}
@@ -9,6 +9,7 @@ use Rattle.no_ir.specs.declared.instruction.Op.TheVariants as op
 use Rattle.no_ir.specs.declared.instruction.Instr.{Instr}
 use Rattle.no_ir.specs.declared.function.Block.{Block}
 use Rattle.no_ir.specs.declared.function.Function.{Function}
+use Rattle.no_module.specs.Instructions.{is_phi, is_terminator}
 use Rattle.no_module.specs.declared.external.External.{External}
 use Rattle.no_module.specs.Externals.{external_of}
 use Rattle.no_module.specs.Functions.{is_declared}
@@ -35,6 +36,7 @@ abbrev pub Reads : Program → (ℕ → Option ℕ) → ℕ → Operand → Type
 Reads p width w (operand.Reg r) = width r ≡ Some w
 Reads p width w (operand.Const c) = (n : ℕ) × (constant_number p c ≡ Some n)
 
+-- an operand of a type: a register of its width, or a constant that is a number
 abbrev pub ReadsOf : Program → (ℕ → Option ℕ) → Ty → Operand → Type 0
 ReadsOf p width t o = Reads p width (width_of p.layout t) o
 
@@ -64,6 +66,7 @@ pub record PhiFits (p : Program) (count : ℕ) (width : ℕ → Option ℕ) (l :
   pub reads : ReadsOf p width t operand
   pub gives : Gives count width into (width_of p.layout t)
 
+-- a phi fits, and so do the others behind it; nothing is asked of any other instruction, with which the phis end
 abbrev pub FrontFits : Program → ℕ → (ℕ → Option ℕ) → ℕ → Option ℕ → Op → Type 0 → Type 0
 FrontFits p count width l into (op.Phi t pairs) others = PhiFits p count width l into t pairs × others
 FrontFits p count width l into _ others = Unit {0}
@@ -98,20 +101,24 @@ pub record IsDirect (p : Program) (t : Ty) (args : List (Ty × Operand)) (k : �
   pub typed : has_type t args function ≡ true
   pub known : IsKnown p function
 
+-- a direct call is one of its function's type, and any other callee is an operand of the pointer's width
 abbrev pub CalleeFits : Program → (ℕ → Option ℕ) → Ty → Operand → List (Ty × Operand) → Option ℕ → Type 0
 CalleeFits p width t callee args (Some k) = IsDirect p t args k
 CalleeFits p width t callee args None = Reads p width p.layout.pointer callee
 
 -- ---- instructions
 
+-- a stated count of an alloca is an operand of its width
 abbrev pub CountFits : Program → (ℕ → Option ℕ) → Option (ℕ × Operand) → Type 0
 CountFits p width None = Unit {0}
 CountFits p width (Some count) = Reads p width count.0 count.1
 
+-- what is returned is of the width that the function gives; nothing is, where it gives nothing
 abbrev pub ReturnFits : Program → (ℕ → Option ℕ) → Ty → Option (Ty × Operand) → Type 0
 ReturnFits p width result None = bits p result ≡ None
 ReturnFits p width result (Some x) = (bits p result ≡ Some (width_of p.layout x.0)) × ReadsOf p width x.0 x.1
 
+-- an instruction of block b reads operands of its widths, gives a result of its width, and names labels that lead somewhere
 abbrev pub OpFits : Program → Function → (ℕ → Option ℕ) → ℕ → Option ℕ → Op → Type 0
 OpFits p g width b into (op.Binary o w x y) = Reads p width w x × Reads p width w y × Gives (length g.registers) width into w
 OpFits p g width b into (op.Compare o t x y) = ReadsOf p width t x × ReadsOf p width t y × Gives (length g.registers) width into 1
@@ -130,21 +137,9 @@ OpFits p g width b into (op.Switch w x l cases) = Reads p width w x × IsTarget 
 OpFits p g width b into (op.Ret value) = ReturnFits p width g.result value
 OpFits p g width b into op.Unreachable = Unit {0}
 
-abbrev pub is_phi : Op → Bool
-is_phi (op.Phi t pairs) = true
-is_phi _ = false
-
--- an instruction that ends its block
-abbrev pub is_last : Op → Bool
-is_last (op.Br l) = true
-is_last (op.CondBr c l k) = true
-is_last (op.Switch w x l cases) = true
-is_last (op.Ret value) = true
-is_last op.Unreachable = true
-is_last _ = false
-
 -- ---- functions and programs
 
+-- what the verifier finds of a defined function: the form of its blocks, the widths of its registers, and that they are assigned before use
 pub record IsProper (p : Program) (g : Function) : Type 0 where
   -- the width of each register
   pub width : ℕ → Option ℕ
@@ -152,15 +147,16 @@ pub record IsProper (p : Program) (g : Function) : Type 0 where
   -- each block has an instruction
   pub some : (b : ℕ) → b < length g.blocks → 0 < length (code_of g b)
   -- behind what does not end a block stands an instruction, and none behind what does
-  pub inner : (b k : ℕ) (i : Instr) → slice_get (code_of g b) k ≡ Some i → is_last i.op ≡ false → k + 1 < length (code_of g b)
-  pub last : (b k : ℕ) (i : Instr) → slice_get (code_of g b) k ≡ Some i → is_last i.op ≡ true → k + 1 ≡ length (code_of g b)
+  pub inner : (b k : ℕ) (i : Instr) → slice_get (code_of g b) k ≡ Some i → is_terminator i.op ≡ false → k + 1 < length (code_of g b)
+  pub last : (b k : ℕ) (i : Instr) → slice_get (code_of g b) k ≡ Some i → is_terminator i.op ≡ true → k + 1 ≡ length (code_of g b)
   -- the entry begins with no phi, and before a phi stand phis alone
   pub entry : (i : Instr) → slice_get (code_of g 0) 0 ≡ Some i → is_phi i.op ≡ false
   pub lead : (b k : ℕ) (i j : Instr) → slice_get (code_of g b) k ≡ Some i → slice_get (code_of g b) (k + 1) ≡ Some j → is_phi j.op ≡ true → is_phi i.op ≡ true
   pub fits : (b k : ℕ) (i : Instr) → slice_get (code_of g b) k ≡ Some i → OpFits p g width b i.result i.op
-  pub idle : (b k : ℕ) (i : Instr) → slice_get (code_of g b) k ≡ Some i → is_last i.op ≡ true → Idle width i.result
+  pub idle : (b k : ℕ) (i : Instr) → slice_get (code_of g b) k ≡ Some i → is_terminator i.op ≡ true → Idle width i.result
   pub paths : IsAssigned g
 
+-- what the verifier finds of a program, so that no run of it gets stuck
 pub record IsSafe (p : Program) : Type 0 where
   pub pointer : 32 ≤ p.layout.pointer
   pub few : length p.«module».functions ≤ 65536

@@ -7,13 +7,14 @@ use Rattle.no_ir.specs.declared.instruction.Instr.{Instr}
 use Rattle.no_ir.specs.declared.function.Function.{Function}
 use Rattle.no_heap.specs.Blocks.{AreLive}
 use Rattle.no_layout.specs.Memory.{stack_start, stack_end}
+use Rattle.no_module.specs.Instructions.{is_phi}
 use Rattle.no_module.specs.Functions.{is_declared}
 use Rattle.no_verify_paths.specs.Paths.{code_of, PathTo, assigned_at}
 use Rattle.no_semantics.specs.Registers.{Registers}
 use Rattle.no_semantics.specs.Rows.{Next, Goes, Leaves, Ends, Stuck}
 use Rattle.no_semantics.specs.States.{Frame, State, function_at}
 use Rattle.no_semantics.specs.Values.{Program}
-use Rattle.no_progress.specs.Proper.{IsSafe, Each, Answers, bits, is_phi}
+use Rattle.no_progress.specs.Proper.{IsSafe, Each, Answers, bits}
 
 -- a register that something may read holds a number of its width
 abbrev pub Held : (ℕ → Option ℕ) → Registers → ℕ → Type 0
@@ -51,6 +52,7 @@ abbrev pub AreCallers : (p : Program) → IsSafe p → Option ℕ → List Frame
 AreCallers p safe given' [] = Unit {0}
 AreCallers p safe given' (c ∷ callers) = (w : IsCallerOf p safe given' c) × AreCallers p safe (bits p w.stands.function.result) callers
 
+-- a state is one of a program: its frame, its callers, its stack pointer, its live blocks, and bytes as its input
 pub record IsStateOf (p : Program) (safe : IsSafe p) (s : State) : Type 0 where
   pub frame : IsFrameOf p safe s.frame
   pub callers : AreCallers p safe (bits p frame.function.result) s.callers

@@ -11,12 +11,13 @@ use Rattle.no_semantics.specs.Spans.{span_of}
 use Rattle.no_semantics.specs.States.{State, assigned, moved}
 use Rattle.no_semantics.specs.Values.{Program}
 
--- "alloca Instruction"
+-- a place on the stack becomes the result, and the stack pointer comes down to it
 abbrev pub allocated : Option ℕ → Valued → State → Row
 allocated into (Number place) s = going (record s { frame = assigned into place s.frame; sp = place })
 allocated into (Traps t) s = trapping t
 allocated into NoValue s = stuck
 
+-- "alloca Instruction"
 unfoldable pub row_alloca : Program → Option ℕ → Ty → Option (ℕ × Operand) → Option ℕ → State → Row
 row_alloca p into t count align s = allocated into (alloca_value p s.frame.registers s.sp t count align) s
 

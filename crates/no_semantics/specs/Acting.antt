@@ -32,6 +32,7 @@ row_of_op p into (op.Switch w a l cases) s = row_switch p w a l cases s
 row_of_op p into (op.Ret value) s = row_ret p value s
 row_of_op p into op.Unreachable s = trapping Unreachable
 
+-- the row of an instruction, which costs nothing where the partition made it
 abbrev pub row_of_instr : Program → State → Instr → Row
 row_of_instr p s i = charged i.inserted (row_of_op p i.result i.op s)
 

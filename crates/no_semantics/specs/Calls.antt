@@ -50,9 +50,11 @@ abbrev pub pointed : Program → Ty → List (Ty × Operand) → ℕ → Option 
 pointed p t args k None = Traps BadFunction
 pointed p t args k (Some g) = if is_callable p.«module» p.role k g && has_type t args g then Number k else Traps BadFunction
 
+-- the function at an address, where it may be called through a pointer by such a call
 abbrev pub at_address : Program → Ty → List (Ty × Operand) → ℕ → Valued
 at_address p t args at = given (Traps BadFunction) (function_number at) (λ k. pointed p t args k (function_at p k))
 
+-- the function of a bare name, and else the one that a pointer leads to
 abbrev pub callee_by : Program → Registers → Ty → Operand → List (Ty × Operand) → Option ℕ → Valued
 callee_by p registers t callee args (Some k) = Number k
 callee_by p registers t callee args None = reading (pointer_of p registers callee) (at_address p t args)
@@ -61,6 +63,7 @@ callee_by p registers t callee args None = reading (pointer_of p registers calle
 unfoldable pub callee_value : Program → Registers → Ty → Operand → List (Ty × Operand) → Valued
 callee_value p registers t callee args = callee_by p registers t callee args (direct callee)
 
+-- the numbers of all arguments, none where one of them has none
 unfoldable pub arguments_of : Program → Registers → List (Ty × Operand) → Option (List ℕ)
 arguments_of p registers args = all_given (map (argument_of p registers) args)
 
@@ -76,6 +79,7 @@ passed [] [] registers = Some registers
 passed (q ∷ params) (n ∷ ns) registers = passed params ns (put q.0 n registers)
 passed _ _ registers = None
 
+-- the registers of a function before any is assigned
 abbrev pub unassigned : Function → Registers
 unassigned g = replicate (length g.registers) None
 
@@ -83,6 +87,7 @@ unassigned g = replicate (length g.registers) None
 abbrev pub entry_frame : ℕ → Function → List ℕ → ℕ → Option Frame
 entry_frame k g ns saved = given None (passed g.params ns (unassigned g)) (λ registers. Some (record { function = k; block = 0; at = 0; registers = registers; saved = saved }))
 
+-- a function begins in this frame, and the frame that calls it becomes the newest caller
 abbrev pub called : ℕ → List ℕ → ℕ → State → Option Frame → Row
 called k ns sp s None = stuck
 called k ns sp s (Some f) = plain (Goes [] (Some (record { function = k; arguments = ns })) (record s { frame = f; callers = s.frame ∷ s.callers; sp = sp }))
@@ -93,9 +98,11 @@ entered k g ns s = if nat_lt s.sp (stack_start + call_room) then trapping StackO
 
 -- ---- externals
 
+-- the part of a state that an external may change
 abbrev pub world_of : State → World
 world_of s = record { byte = s.byte; heap = s.heap; input = s.input }
 
+-- a state with this part in the place of its own
 abbrev pub with_world : State → World → State
 with_world s w = record s { byte = w.byte; heap = w.heap; input = w.input }
 
@@ -104,9 +111,11 @@ abbrev pub effect_next : Effect → State → Option Frame → Next
 effect_next e s None = Stuck
 effect_next e s (Some f) = Goes e.output None (record (with_world s e.world) { frame = f })
 
+-- the row of an external that goes on: what it costs, the bytes that it touches, and what it leaves
 abbrev pub effect_row : ℕ → Effect → State → Option Frame → Row
 effect_row cost e s f = record { cost = cost; sought = e.sought; reads = e.reads; writes = e.writes; asks = false; next = effect_next e s f }
 
+-- the row of an external, by its outcome
 abbrev pub outcome_row : Option ℕ → Outcome → Effect → State → Row
 outcome_row into (outcome.Gives v cost) e s = effect_row cost e s (answered into (Some v) s.frame)
 outcome_row into (outcome.Does cost) e s = effect_row cost e s (answered into None s.frame)
@@ -119,11 +128,12 @@ outcome_row into outcome.Stuck e s = stuck
 abbrev pub row_effect : Option ℕ → Effect → State → Row
 row_effect into e s = outcome_row into e.outcome e s
 
--- the first function of a part with a device address, by its number from k on
+-- the device address of a function is this one
 abbrev pub has_address : ℕ → Option ℕ → Bool
 has_address at None = false
 has_address at (Some a) = a == at
 
+-- the first function of a part with a device address, by its number from k on
 abbrev pub addressed_from : ℕ → List Function → ℕ → Option ℕ
 addressed_from k [] at = None
 addressed_from k (f ∷ more) at = if has_address at f.device_address then Some k else addressed_from (k + 1) more at
@@ -133,6 +143,7 @@ abbrev pub mapped : Option ℕ → ℕ
 mapped None = 0
 mapped (Some k) = function_address k
 
+-- the row of `no.map`, which gives the number to call for an address of the device
 abbrev pub row_map : Program → Option ℕ → List ℕ → State → Row
 row_map p into (at ∷ []) s = arrived s (answered into (Some (mapped (addressed_from 0 p.«module».functions at))) s.frame)
 row_map p into _ s = stuck
@@ -142,6 +153,7 @@ abbrev pub row_room : Option ℕ → List ℕ → State → Row
 row_room into (n ∷ size ∷ align ∷ []) s = allocated into (stack_place (lowered s.sp (n * size) align)) s
 row_room into _ s = stuck
 
+-- the row of a call of an external
 abbrev pub row_external : Program → Option ℕ → External → List ℕ → State → Row
 row_external p into external.Alloca ns s = row_room into ns s
 row_external p into external.Map ns s = row_map p into ns s
@@ -149,14 +161,17 @@ row_external p into e ns s = record (row_effect into (do_external p.regions e ns
 
 -- ---- instructions
 
+-- the row of a call of function k: that of an external where it is declared, and else its entry
 abbrev pub invoked : Program → Option ℕ → ℕ → List ℕ → State → Function → Row
 invoked p into k ns s g = if is_declared g then given stuck (external_of p.role g) (λ e. row_external p into e ns s) else entered k g ns s
 
+-- the row of a call, once it is known which function is called
 abbrev pub calling : Program → Option ℕ → Valued → List (Ty × Operand) → State → Row
 calling p into (Number k) args s = given stuck (arguments_of p s.frame.registers args) (λ ns. given stuck (function_at p k) (invoked p into k ns s))
 calling p into (Traps t) args s = trapping t
 calling p into NoValue args s = stuck
 
+-- "call Instruction"
 unfoldable pub row_call : Program → Option ℕ → Ty → Operand → List (Ty × Operand) → State → Row
 row_call p into t callee args s = calling p into (callee_value p s.frame.registers t callee args) args s
 
@@ -165,13 +180,16 @@ abbrev pub returned_in : State → List Frame → Option Frame → Row
 returned_in s callers None = stuck
 returned_in s callers (Some f) = going (record s { frame = f; callers = callers; sp = s.frame.saved })
 
+-- the row of a return: to the newest caller, or out of the run's first frame
 abbrev pub returned : Program → Option ℕ → List Frame → State → Row
 returned p value [] s = plain (Leaves value)
 returned p value (c ∷ callers) s = returned_in s callers (given None (instr_at p c) (λ i. answered i.result value c))
 
+-- the row of a return from a state's frame
 abbrev pub row_return : Program → Option ℕ → State → Row
 row_return p value s = returned p value s.callers s
 
+-- "ret Instruction"
 unfoldable pub row_ret : Program → Option (Ty × Operand) → State → Row
 row_ret p None s = row_return p None s
 row_ret p (Some x) s = given stuck (argument_of p s.frame.registers x) (λ n. row_return p (Some n) s)

@@ -64,10 +64,12 @@ abbrev pub next_of : List ℕ → ℕ
 next_of [] = 2 ^ 32 - 1
 next_of (b ∷ bs) = b
 
+-- what is left of the input behind its next byte
 abbrev pub rest_of : List ℕ → List ℕ
 rest_of [] = []
 rest_of (b ∷ bs) = bs
 
+-- the next byte of the input is taken, and given
 unfoldable pub do_getchar : World → Effect
 do_getchar w = gives (next_of w.input) (record w { input = rest_of w.input })
 
@@ -75,10 +77,11 @@ do_getchar w = gives (next_of w.input) (record w { input = rest_of w.input })
 unfoldable pub do_putchar : ℕ → World → Effect
 do_putchar c w = record { sought = []; reads = []; writes = []; outcome = Gives (c % 256) 1; output = c % 256 ∷ []; world = w }
 
--- how many bytes stand from an address to the end of its region, and 0 where it is in none
+-- how many bytes stand from an address to the end of this region, and another number where it is not in it
 abbrev pub up_to : ℕ → ℕ → ℕ → ℕ → ℕ
 up_to low high at other = if within low high at 1 then high - at else other
 
+-- how many bytes stand from an address to the end of its region, and 0 where it is in none
 abbrev pub room_of : Regions → ℕ → ℕ
 room_of r at =
     up_to constants_start r.constants_end at
@@ -111,6 +114,7 @@ abbrev pub place_or_null : Option ℕ → ℕ
 place_or_null None = 0
 place_or_null (Some place) = place
 
+-- a new block for so many bytes, or null where none fits
 unfoldable pub do_malloc : ℕ → World → Effect
 do_malloc size w = gives (place_or_null (fit w.heap size)) (placed (fit w.heap size) size w)
 
@@ -169,13 +173,15 @@ abbrev pub valued : Bool → ℕ → World → Effect
 valued true v w = gives v w
 valued false v w = still Stuck w
 
--- the widths of which numbers may be swapped and compared
+-- the widths of numbers whose bytes may be swapped
 abbrev pub is_swapped_width : ℕ → Bool
 is_swapped_width w = w == 16 || (w == 32 || w == 64)
 
+-- the widths of numbers that may be compared
 abbrev pub is_compared_width : ℕ → Bool
 is_compared_width w = w == 8 || is_swapped_width w
 
+-- two numbers of such a width
 abbrev pub are_below : ℕ → ℕ → ℕ → Bool
 are_below w a b = is_compared_width w && (nat_lt a (2 ^ w) && nat_lt b (2 ^ w))
 
@@ -183,33 +189,39 @@ are_below w a b = is_compared_width w && (nat_lt a (2 ^ w) && nat_lt b (2 ^ w))
 unfoldable pub do_swap : ℕ → ℕ → World → Effect
 do_swap w a = valued (is_swapped_width w && nat_lt a (2 ^ w)) (swapped (w / 8) a)
 
--- the lower or the higher of two numbers, as unsigned or as signed ones
+-- the first of two numbers, or else the second
 abbrev pub chosen : Bool → ℕ → ℕ → ℕ
 chosen first a b = if first then a else b
 
+-- the lower of two unsigned numbers
 unfoldable pub do_umin : ℕ → ℕ → ℕ → World → Effect
 do_umin w a b = valued (are_below w a b) (chosen (nat_le a b) a b)
 
+-- the higher of two unsigned numbers
 unfoldable pub do_umax : ℕ → ℕ → ℕ → World → Effect
 do_umax w a b = valued (are_below w a b) (chosen (nat_le b a) a b)
 
+-- the lower of two signed numbers
 unfoldable pub do_smin : ℕ → ℕ → ℕ → World → Effect
 do_smin w a b = valued (are_below w a b) (chosen (int_le (signed w a) (signed w b)) a b)
 
+-- the higher of two signed numbers
 unfoldable pub do_smax : ℕ → ℕ → ℕ → World → Effect
 do_smax w a b = valued (are_below w a b) (chosen (int_le (signed w b) (signed w a)) a b)
 
 -- ---- all of them
 
--- so many arguments, and no others
+-- no arguments, for an external of none
 abbrev pub with_none : List ℕ → (World → Effect) → World → Effect
 with_none [] f w = f w
 with_none _ f w = still Stuck w
 
+-- just one argument, for an external of one
 abbrev pub with_one : List ℕ → (ℕ → World → Effect) → World → Effect
 with_one (a ∷ []) f w = f a w
 with_one _ f w = still Stuck w
 
+-- just two arguments, for an external of two
 abbrev pub with_two : List ℕ → (ℕ → ℕ → World → Effect) → World → Effect
 with_two (a ∷ b ∷ []) f w = f a b w
 with_two _ f w = still Stuck w
@@ -219,9 +231,11 @@ abbrev pub with_four : List ℕ → (ℕ → ℕ → ℕ → World → Effect) �
 with_four (a ∷ b ∷ c ∷ d ∷ []) f w = f a b c w
 with_four _ f w = still Stuck w
 
+-- the run ends with the low 8 bits of the status
 abbrev pub do_exit : ℕ → World → Effect
 do_exit status w = still (Exits (status % 256)) w
 
+-- the run ends by the trap `Abort`
 abbrev pub do_abort : World → Effect
 do_abort w = still (Traps Abort) w
 

@@ -31,18 +31,21 @@ program_of a = record {
 abbrev pub padded : ℕ → List ℕ → List ℕ
 padded n bytes = bytes ++ replicate (n - length bytes) 0
 
--- the type of an array's elements, and that of a struct's field
+-- the type of the elements of an array, by its outermost layer; i8 where it is none
 abbrev pub element_step : Ty-F Ty → Ty
 element_step (Ty-F.Array count element) = element
 element_step _ = ty.Int 8
 
+-- the type of the elements of an array type, which may be a named one
 abbrev pub element_of : Program → Ty → Ty
 element_of p t = element_step (out-Ty (resolved p.«module».types t))
 
+-- the type of a field, i8 where there is none
 abbrev pub field_or : Option Ty → Ty
 field_or None = ty.Int 8
 field_or (Some t) = t
 
+-- the type of field k of a struct, by its outermost layer; i8 where there is none
 abbrev pub field_step : Ty-F Ty → ℕ → Ty
 field_step (Ty-F.Struct packed fields) k = field_or (slice_get fields k)
 field_step _ k = ty.Int 8
@@ -61,6 +64,7 @@ fields_bytes p t k before (field ∷ more) =
 abbrev pub number_bytes : Program → Ty → ℕ → List ℕ
 number_bytes p t n = bytes_of p.layout.big (bytes_of_width (width_of p.layout t)) (n % 2 ^ width_of p.layout t)
 
+-- the bytes of a constant of a type, from those of its parts at their types
 abbrev pub bytes_step : Program → Const-F (Ty → List ℕ) → Ty → List ℕ
 bytes_step p Const-F.Zero t = replicate (type_size p.layout p.sizes t) 0
 bytes_step p (Const-F.Int n) t = number_bytes p t n

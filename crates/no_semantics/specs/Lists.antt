@@ -1,6 +1,7 @@
 -- Tests of lists.
 use Rattle.std.specs.Prelude.{Bool, true, false, List, [], ◌∷◌}
 
+-- a list has no elements
 abbrev pub is_empty : {A : Type 0} → List A → Bool
 is_empty [] = true
 is_empty (x ∷ xs) = false

@@ -19,9 +19,11 @@ pub record Opened : Type 0 where
   pub depth : ℕ
   pub inside : ℕ
 
+-- the entry of an open call, if it closed now
 abbrev pub entry_of : Opened → Entry
 entry_of o = record { call = o.call; inside = o.inside }
 
+-- an open call after an instruction of this cost
 abbrev pub counted : ℕ → Opened → Opened
 counted cost o = record o { inside = o.inside + cost }
 
@@ -39,13 +41,16 @@ abbrev pub closed : ℕ → Option Opened → List Entry
 closed cost None = []
 closed cost (Some o) = entry_of (counted cost o) ∷ []
 
+-- a call stays open while its frame is live; once that is gone its entry comes, and then those of the rest
 abbrev pub kept_open : Opened → State → (Option Opened → Option (List Entry)) → Option (List Entry)
 kept_open o t rest = if is_live o t then rest (Some o) else option_map (λ more. entry_of o ∷ more) (rest None)
 
+-- the entries behind an instruction that goes on: its cost counts inside an open call, and where none is open its call may open one
 abbrev pub entries_on : (ℕ → Bool) → ℕ → Option Calling → State → Option Opened → (Option Opened → Option (List Entry)) → Option (List Entry)
 entries_on among cost call t None rest = rest (opened among call t)
 entries_on among cost call t (Some o) rest = kept_open (counted cost o) t rest
 
+-- the entries from an instruction on, by what comes next; none where the run gets stuck
 abbrev pub entries_by : (ℕ → Bool) → ℕ → Next → Option Opened → (State → Option Opened → Option (List Entry)) → Option (List Entry)
 entries_by among cost (Goes bytes call t) mark rest = entries_on among cost call t mark (rest t)
 entries_by among cost (Leaves value) mark rest = Some (closed cost mark)

@@ -10,6 +10,7 @@ pub use Rattle.no_sound.specs.Blocks.{given}
 
 -- ---- parts that may be missing
 
+-- a part in front of others, where none is missing
 abbrev pub with_front : {A : Type 0} → Option A → Option (List A) → Option (List A)
 with_front (Some x) (Some xs) = Some (x ∷ xs)
 with_front _ _ = None
@@ -29,6 +30,7 @@ Registers = List (Option ℕ)
 abbrev pub below : ℕ → ℕ → Option ℕ
 below w n = if nat_lt n (2 ^ w) then Some n else None
 
+-- what a register holds as a number of w bits, where it was assigned
 abbrev pub held_below : ℕ → Option (Option ℕ) → Option ℕ
 held_below w (Some (Some n)) = below w n
 held_below w _ = None

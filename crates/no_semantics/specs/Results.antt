@@ -27,6 +27,7 @@ pub data Valued : Type 0 where
 abbrev pub reading : Option ℕ → (ℕ → Valued) → Valued
 reading a make = given NoValue a make
 
+-- what a binary operator gives: its number, or a trap
 abbrev pub valued : Result ℕ Trap → Valued
 valued (Ok n) = Number n
 valued (Err t) = Traps t
@@ -64,6 +65,7 @@ select_value p registers c t a b =
 abbrev pub address_after : Program → Ty → ℕ → List ℕ → ℕ
 address_after p t at indices = (at + path_offset p.layout p.sizes p.«module».types t indices) % 2 ^ p.layout.pointer
 
+-- the address that indices lead to from a pointer ("getelementptr Instruction")
 unfoldable pub gep_value : Program → Registers → Ty → Operand → List (ℕ × Operand) → Valued
 gep_value p registers t a indices =
     reading (pointer_of p registers a) (λ at. given NoValue (all_given (map (index_of p registers) indices)) (λ ns. Number (address_after p t at ns)))
@@ -78,6 +80,7 @@ in_stack place = if nat_lt place stack_start then None else Some place
 abbrev pub lowered : ℕ → ℕ → ℕ → Option ℕ
 lowered sp bytes align = if nat_lt sp bytes then None else in_stack ((sp - bytes) / align * align)
 
+-- a place on the stack as a value; without one the stack overflows
 abbrev pub stack_place : Option ℕ → Valued
 stack_place None = Traps StackOverflow
 stack_place (Some place) = Number place

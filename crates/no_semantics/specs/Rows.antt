@@ -30,12 +30,15 @@ pub record Row : Type 0 where
 
 -- ---- rows that touch no memory
 
+-- the row of an instruction that costs one and touches no memory
 abbrev pub plain : Next → Row
 plain next = record { cost = 1; sought = []; reads = []; writes = []; asks = false; next = next }
 
+-- the row of what has no meaning
 abbrev pub stuck : Row
 stuck = plain Stuck
 
+-- the row of a trap
 abbrev pub trapping : Trap → Row
 trapping t = plain (Ends (Trapped t))
 
@@ -59,6 +62,7 @@ computed into NoValue s = stuck
 abbrev pub needed : Row → List Span
 needed row = row.sought ++ (row.reads ++ row.writes)
 
+-- these bytes, where the run goes on
 abbrev pub touched_by : Next → List Span → List Span
 touched_by (Goes bytes call t) spans = spans
 touched_by _ spans = []
@@ -71,6 +75,7 @@ touched row = touched_by row.next (needed row)
 abbrev pub unfinished : List Span → Row
 unfinished sought = record { cost = 0; sought = sought; reads = []; writes = []; asks = false; next = Ends Unfinished }
 
+-- a row that costs no more than is left; otherwise its instruction is not finished
 abbrev pub affordable : ℕ → Row → Row
 affordable left row = if nat_lt left row.cost then unfinished row.sought else row
 

@@ -22,6 +22,7 @@ pub record Whole : Type 0 where
   pub finish : Finish
   pub state : State
 
+-- the run of one last instruction, which finishes so
 abbrev pub finished : ℕ → Finish → State → Whole
 finished cost finish s = record { output = []; count = cost; finish = finish; state = s }
 
@@ -29,12 +30,14 @@ finished cost finish s = record { output = []; count = cost; finish = finish; st
 abbrev pub resumed : List ℕ → ℕ → Whole → Whole
 resumed bytes cost w = record { output = bytes ++ w.output; count = cost + w.count; finish = w.finish; state = w.state }
 
+-- the run from an instruction on, by what comes next; none where it gets stuck
 abbrev pub whole_by : ℕ → Next → State → (State → Option Whole) → Option Whole
 whole_by cost (Goes bytes call t) s rest = option_map (resumed bytes cost) (rest t)
 whole_by cost (Leaves value) s rest = Some (finished cost (Returned value) s)
 whole_by cost (Ends end) s rest = Some (finished cost (Ended end) s)
 whole_by cost Stuck s rest = None
 
+-- the run from a state on, by the row of its next instruction
 abbrev pub whole_from : Row → State → (State → Option Whole) → Option Whole
 whole_from r s rest = whole_by r.cost r.next s rest
 
@@ -61,9 +64,11 @@ end_of (Returned (Some n)) = Some (Exited (n % 256))
 end_of (Returned None) = None
 end_of (Ended end) = Some end
 
+-- the run of a program, from what it wrote, what it counted and its end
 abbrev pub ran_by : List ℕ → ℕ → End → Ran
 ran_by output count end = record { output = output; count = count; end = end }
 
+-- the run of a program, from the run of its main; none where main returns nothing
 abbrev pub ran_of : Whole → Option Ran
 ran_of w = option_map (ran_by w.output w.count) (end_of w.finish)
 

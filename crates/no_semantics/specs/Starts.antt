@@ -15,6 +15,7 @@ abbrev pub main_from : ℕ → List Function → Option ℕ
 main_from n [] = None
 main_from n (f ∷ more) = if bytes_eq f.name (codes "main") then Some n else main_from (n + 1) more
 
+-- the number of a program's first function of the name main
 abbrev pub main_number : Program → Option ℕ
 main_number p = main_from 0 p.«module».functions
 
@@ -22,9 +23,11 @@ main_number p = main_from 0 p.«module».functions
 abbrev pub zeros_for : List (ℕ × Ty) → List ℕ
 zeros_for params = map (λ q. 0) params
 
+-- a frame at the entry of function k of a program, behind which this stack pointer comes back
 abbrev pub entry_of : Program → ℕ → List ℕ → ℕ → Option Frame
 entry_of p k arguments saved = given None (function_at p k) (λ g. entry_frame k g arguments saved)
 
+-- the frame at the entry of main, with a zero for each parameter
 abbrev pub main_frame : Program → Option Frame
 main_frame p = given None (main_number p) (λ k. given None (function_at p k) (λ g. entry_frame k g (zeros_for g.params) stack_end))
 
@@ -32,6 +35,7 @@ main_frame p = given None (main_number p) (λ k. given None (function_at p k) (�
 abbrev pub begun : (ℕ → ℕ) → List ℕ → Frame → State
 begun byte input f = record { frame = f; callers = []; sp = stack_end - call_room; byte = byte; heap = []; input = input }
 
+-- the state at which a program begins, over these bytes and this input; none where it has no main
 unfoldable pub start : Program → (ℕ → ℕ) → List ℕ → Option State
 start p byte input = given None (main_frame p) (λ f. Some (begun byte input f))
 

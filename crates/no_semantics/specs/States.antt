@@ -28,6 +28,7 @@ pub record State : Type 0 where
 
 -- ---- places
 
+-- function k of a program
 abbrev pub function_at : Program → ℕ → Option Function
 function_at p k = slice_get p.«module».functions k
 
@@ -35,9 +36,11 @@ function_at p k = slice_get p.«module».functions k
 abbrev pub HasNoMarks : Module → Type 0
 HasNoMarks m = (k b at : ℕ) (i : Instr) → given None (block_in m k b) (λ (x : Block). slice_get x.instrs at) ≡ Some i → i.inserted ≡ false
 
+-- block b of function k of a program
 abbrev pub block_at : Program → ℕ → ℕ → Option Block
 block_at p k b = block_in p.«module» k b
 
+-- the next instruction of a frame, none where nothing stands at its place
 abbrev pub instr_at : Program → Frame → Option Instr
 instr_at p f = given None (block_at p f.function f.block) (λ (b : Block). slice_get b.instrs f.at)
 
@@ -47,6 +50,7 @@ instr_at p f = given None (block_at p f.function f.block) (λ (b : Block). slice
 abbrev pub put : ℕ → ℕ → Registers → Registers
 put r n registers = slice_set registers r (Some n)
 
+-- a result gets a number, where the instruction has a register for it
 abbrev pub put_into : Option ℕ → ℕ → Registers → Registers
 put_into None n registers = registers
 put_into (Some r) n registers = put r n registers

@@ -11,6 +11,7 @@ pub record Reached : Type 0 where
   pub count : ℕ
   pub state : State
 
+-- no steps at all
 abbrev pub here : State → Reached
 here s = record { output = []; count = 0; state = s }
 
@@ -18,10 +19,12 @@ here s = record { output = []; count = 0; state = s }
 abbrev pub from_there : List ℕ → ℕ → Reached → Reached
 from_there bytes cost r = record { output = bytes ++ r.output; count = cost + r.count; state = r.state }
 
+-- what is reached by way of an instruction that goes on, none by any other
 abbrev pub reached_by : ℕ → Next → (State → Option Reached) → Option Reached
 reached_by cost (Goes bytes call t) rest = option_map (from_there bytes cost) (rest t)
 reached_by cost _ rest = None
 
+-- what is reached from a state, by the row of its next instruction
 abbrev pub reached_from : Row → (State → Option Reached) → Option Reached
 reached_from r rest = reached_by r.cost r.next rest
 

@@ -10,20 +10,24 @@ use Rattle.no_ir.specs.declared.function.Function.{Function}
 use Rattle.no_ir.specs.declared.function.Module.{Module}
 use Rattle.no_ir.specs.declared.function.Role.{Role}
 use Rattle.no_ir.specs.declared.function.Role.TheVariants.{Source, Part}
+use Rattle.no_module.specs.Instructions.{argument_operands}
 use Rattle.no_verify_types.specs.Named.{op_names, operand_names, global_names}
 use Rattle.no_verify_types.specs.Typing.{direct}
 
--- a callee that is no bare name of a function
+-- the functions that a callee names otherwise than by a bare name
 abbrev pub callee_taken : Operand → List ℕ
 callee_taken callee = if is_some (direct callee) then [] else operand_names callee
 
+-- the functions whose address an instruction takes
 abbrev pub op_taken : Op → List ℕ
-op_taken (op.Call t callee args) = callee_taken callee ++ flat_map (λ arg. operand_names arg.1) args
+op_taken (op.Call t callee args) = callee_taken callee ++ flat_map operand_names (argument_operands args)
 op_taken o = op_names o
 
+-- the functions whose address the instructions of a block take
 abbrev pub block_taken : Block → List ℕ
 block_taken b = flat_map (λ (i : Instr). op_taken i.op) b.instrs
 
+-- the functions whose address a function's code takes
 abbrev pub function_taken : Function → List ℕ
 function_taken f = flat_map block_taken f.blocks
 

@@ -53,6 +53,7 @@ abbrev pub place_number : Layout → List Extent → List (List ℕ × Ty) → L
 place_number l sizes types addresses place =
     (symbol_number addresses place.symbol + path_offset l sizes types place.base (map (modulo l.pointer) place.indices)) % 2 ^ l.pointer
 
+-- the address of a place of a program's module
 abbrev pub place_address : Program → Place → ℕ
 place_address p place = place_number p.layout p.sizes p.«module».types p.addresses place
 
@@ -66,6 +67,7 @@ constant p _ = 0
 
 -- ---- operands
 
+-- what a register holds, or the number that a constant is, before it is cut to a width
 abbrev pub operand_number : Program → List ℕ → Operand → ℕ
 operand_number p registers (operand.Reg r) = slice_index registers r
 operand_number p registers (operand.Const c) = constant p c
