@@ -1,13 +1,10 @@
 -- The whole line of an outcome is told.
-use Rattle.std.proofs.Common.{ℕ, List, length, sym, subst, Option, inl, inr, arith}
-use Rattle.std.proofs.Math.Seq.{take-length}
+use Rattle.std.proofs.Common.{ℕ, List, subst, Option, inl, inr}
 use Rattle.no_ports.specs.Meanings.{Adds, AddsPrefix}
 use Rattle.no_app.specs.declared.outcome.Outcome.{Outcome}
 use Rattle.no_app.specs.declared.outcome.Outcome.TheVariants as outcome
+use Rattle.no_app.proofs.Jobs.{adds_all}
 use Rattle.no_app.specs.Outcomes.{line_of, Around, Says, Tells, Concludes, Becomes, IsRefusal}
-
-pub adds_all : (old new : Option (List ℕ)) (bytes : List ℕ) → Adds old new bytes → AddsPrefix old new bytes
-adds_all old new bytes all = (length bytes, omega arith, subst (λ (b : List ℕ). Adds old new b) (sym (take-length bytes)) all)
 
 -- a line that is given whole is that of the outcome
 pub tells_whole : (o : Outcome) (a : Around) (old new : Option (List ℕ)) (errs errs' : ℕ) → Says o a → Adds old new (line_of o) → Tells o a old new errs errs'

@@ -1,10 +1,7 @@
 pub mod Numbers
 pub mod Meanings
 pub mod Runnable
-pub mod Ways
-pub mod Starting
 pub mod Jobs
 pub mod Feeding
-pub mod Ending
 pub mod LastLines
 pub mod Outcomes

@@ -24,16 +24,11 @@ use Rattle.no_app.specs.declared.job.JobEnd.TheVariants as job
 use Rattle.no_app.specs.declared.outcome.Outcome.{Outcome}
 use Rattle.no_app.specs.declared.outcome.Outcome.TheVariants as outcome
 use Rattle.no_app.specs.declared.report.Report.{Report}
-use Rattle.no_app.proofs.Jobs.{any_input}
-use Rattle.no_app.proofs.LastLines.{adds_all}
+use Rattle.no_app.proofs.Jobs.{adds_all, any_input, input_more}
 use Rattle.no_app.proofs.Meanings.{means_accepted}
 use Rattle.no_app.proofs.Runnable.{runnable}
 
 -- ---- inputs
-
--- what follows from a fact of some input
-pub input_more : (P Q : List ℕ → Type 0) (left : Option (List ℕ)) → ((given : List ℕ) → AreBytes given → P given → Q given) → OnInput left P → OnInput left Q
-input_more P Q left more on = record { given = on.given; are_bytes = on.are_bytes; is = on.is; so = more on.given on.are_bytes on.so }
 
 -- a source that nothing was taken from
 pub goes_on_same : (left : Option (List ℕ)) → GoesOn left left

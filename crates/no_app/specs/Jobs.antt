@@ -2,18 +2,12 @@
 use Rattle.std.specs.Prelude.{◌≡◌, ℕ, ◌+◌, ◌*◌, ◌-◌, ◌<◌, ◌≤◌, Bool, true, false, not, ◌&&◌, if◌then◌else◌, List, [], ◌++◌, Option, Some, None, IfSome}
 use Rattle.no_ports.specs.Meanings.{Adds, AddsPrefix}
 use Rattle.no_lib.specs.declared.env.Env.{Env}
-use Rattle.no_layout.specs.Memory.{AreFormed}
-use Rattle.no_pages.specs.Table.{byte_of, held_of, regions_of}
-use Rattle.no_pages.specs.declared.table.PageTable.{PageTable}
 use Rattle.no_machine.specs.Counted.{Counted}
-use Rattle.no_machine.specs.Ran.{IsAt, IsMade, budget_of, count_of}
 use Rattle.no_machine.specs.Turning.{NeverStuck}
-use Rattle.no_machine.specs.declared.machine.Machine.{Machine}
 use Rattle.no_ir.specs.declared.function.Role.TheVariants.{Source}
 use Rattle.no_progress.specs.Proper.{Each}
 use Rattle.no_semantics.specs.First.{program_of}
 use Rattle.no_semantics.specs.Starts.{main_from, start_of}
-use Rattle.no_machine.specs.Ran as machine
 use Rattle.no_semantics.specs.States.{HasNoMarks, State}
 use Rattle.no_semantics.specs.Accepted.{Accepted}
 use Rattle.no_semantics.specs.Lists.{is_empty}
@@ -26,6 +20,7 @@ use Rattle.no_app.specs.declared.job.JobEnd.TheVariants as job
 
 -- ---- inputs and runs
 
+-- each number is below 256
 abbrev pub AreBytes : List ℕ → Type 0
 AreBytes xs = Each (λ (b : ℕ). b < 256) xs
 
@@ -82,6 +77,13 @@ IsRunOf job.ReadFault ran old new = AddsPrefix old new ran.output
 IsRunOf job.WriteFault ran old new = AddsPrefix old new ran.output
 IsRunOf job.NoMemory ran old new = AddsPrefix old new ran.output
 
+-- a fact that holds where the program ended
+abbrev pub WhereEnded : JobEnd → Type 0 → Type 0
+WhereEnded (job.Ended e report) P = P
+WhereEnded job.ReadFault P = Unit {0}
+WhereEnded job.WriteFault P = Unit {0}
+WhereEnded job.NoMemory P = Unit {0}
+
 -- the counter's source number rises by the run's count, or by no more where the job stopped before; its part number stays
 abbrev pub Counts : JobEnd → ℕ → Counted → Counted → Type 0
 Counts (job.Ended e report) count old new = new ≡ record { source = old.source + count; part = old.part }
@@ -94,39 +96,20 @@ pub record RanSo (end : JobEnd) (old new : Option (List ℕ)) (counted counted' 
   pub is : IsRunOf end ran old new
   pub counts : Counts end ran.count counted counted'
 
--- ---- a machine over a memory with all its pages
+-- what a job says that runs a program by an engine: that of its run, and where that ended, what the engine says of an ended run
+pub record SlicedSo (over : Type 0) (end : JobEnd) (old new : Option (List ℕ)) (counted counted' : Counted) (ran : Ran) : Type 0 where
+  pub so : RanSo end old new counted counted' ran
+  pub ended : WhereEnded end over
 
-abbrev pub Local : Type 0
-Local = Machine PageTable
-
--- its memory has all pages
-pub record HasPages (m : Local) : Type 0 where
-  pub formed : AreFormed (regions_of (machine.memory_of m))
-  pub held : (page : ℕ) → page < 131328 → held_of (machine.memory_of m) page ≡ true
-
--- it stands where the run on an input begins, of which an environment may have any first bytes
-pub record BeginsOn (a : Accepted) (m : Local) (given : List ℕ) : Type 0 where
-  pub begin : State
-  pub begins : start_of a given ≡ Some begin
-  pub at : (env : Env) (more : List ℕ) → given ≡ env.input ++ more → (env.ended ≡ true → more ≡ []) → IsAt byte_of held_of (machine.program_of regions_of a m) m env more begin
-
--- at the beginning of its run on every input
-pub record IsAtStart (a : Accepted) (budget : ℕ) (m : Local) : Type 0 where
-  pub starts : (given : List ℕ) → AreBytes given → BeginsOn a m given
-  pub same_program : machine.program_of regions_of a m ≡ program_of a
-  pub made : IsMade a m
-  pub uncounted : count_of m ≡ 0
-  pub limit : budget_of m ≡ budget
-  pub goes_on : machine.end_of m ≡ None
-  pub whole : HasPages m
+-- ---- a job between two slices
 
 -- whether the next byte of the input is not there, though there may be one
 abbrev pub is_open : Env → Bool
 is_open env = is_empty env.input && not env.ended
 
--- what is left to do, of which each slice and each take from the source does some
-abbrev pub work_left : Local → Env → ℕ
-work_left m env = 2 * (budget_of m - count_of m) + (if is_open env then 1 else 0)
+-- what is left to do of a budget of which so much is counted: each slice and each take from the source does some of it
+abbrev pub work_left : ℕ → ℕ → Env → ℕ
+work_left budget count env = 2 * (budget - count) + (if is_open env then 1 else 0)
 
 -- some first bytes of what the source has left came behind the input; or nothing comes any more
 pub record IsFed (left left' : Option (List ℕ)) (before after : Env) : Type 0 where

@@ -29,6 +29,7 @@ use Rattle.no_verify.specs.declared.fault.VerifyFault.{VerifyFault}
 
 -- ---- statuses and lines
 
+-- the exit status of an outcome
 abbrev pub status_of : Outcome → ℕ
 status_of (outcome.Exited c) = c
 status_of (outcome.Trapped t) = 100 + trap_number t
@@ -44,12 +45,14 @@ status_of outcome.WriteFault = 118
 abbrev pub place_words : ℕ → ℕ → List ℕ
 place_words kind at = decimal kind ++ codes " at " ++ decimal at
 
+-- the place of a reader's fault in the text
 abbrev pub place_of : ReadFault → ℕ
 place_of (reads.Syntax at) = at
 place_of (reads.LeftOut at word) = at
 place_of (reads.Number at) = at
 place_of (reads.Circle at) = at
 
+-- the number of a kind of fault of a layout string
 abbrev pub layout_number : LayoutKind → ℕ
 layout_number layout.NoOrder = 1
 layout_number layout.BadWidth = 2
@@ -61,6 +64,7 @@ verify_words fault =
     codes "verify " ++ decimal (number_of fault.kind) ++ codes " function " ++ decimal fault.function ++ codes " block " ++ decimal fault.block
     ++ codes " place " ++ decimal fault.place
 
+-- who found a module's fault, its kind, and its place
 abbrev pub module_words : ModuleFault → List ℕ
 module_words (modules.Lex fault) = codes "lex " ++ place_words (kind_number fault.kind) fault.at
 module_words (modules.Read fault) = codes "read " ++ place_words (fault_number fault) (place_of fault)
@@ -79,6 +83,7 @@ words_of (outcome.BadModule fault) = codes "bad module " ++ module_words fault
 words_of outcome.ReadFault = codes "read fault"
 words_of outcome.WriteFault = codes "write fault"
 
+-- the last line of an outcome
 abbrev pub line_of : Outcome → List ℕ
 line_of o = codes "nativeoff: " ++ words_of o ++ codes "\n"
 
@@ -179,6 +184,7 @@ abbrev pub RunsPart : Flow → List ℕ → ℕ → Result Accepted ModuleFault 
 RunsPart f input steps (Err fault) = Idle f
 RunsPart f input steps (Ok a) = OnRun a input steps (RanPart f)
 
+-- whatever a text means, a prefix of its program's run was written, or nothing without a program
 abbrev pub WritesText : Flow → List ℕ → ℕ → List ℕ → Type 0
 WritesText f input steps text = (found : Result Accepted ModuleFault) → Means text found → RunsPart f input steps found
 

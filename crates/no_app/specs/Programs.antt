@@ -36,6 +36,7 @@ pub record MeansModule (m : Module) (found : Result Accepted ModuleFault) : Type
 
 -- ---- a text
 
+-- what a text means, by the module or the fault that its tokens read to
 abbrev pub MeansRead : Result Module ReadFault → Result Accepted ModuleFault → Type 0
 MeansRead (Err fault) found = found ≡ Err (modules.Read fault)
 MeansRead (Ok m) found = MeansModule m found
@@ -61,15 +62,17 @@ Loads (Ok a) P = P (Ok a)
 Loads (Err (refused.Bad fault)) P = P (Err fault)
 Loads (Err refused.NoMemory) P = Unit {0}
 
--- why a text gives no program, by the errors of lexer, reader and verifier
+-- why a text gives no program, by the error of the lexer
 abbrev pub unlexed : LexError → Refused
 unlexed lexing.NoMemory = refused.NoMemory
 unlexed (lexing.Fault fault) = refused.Bad (modules.Lex fault)
 
+-- why a text gives no program, by the error of the reader
 abbrev pub unread : ReadError → Refused
 unread reading.NoMemory = refused.NoMemory
 unread (reading.Fault fault) = refused.Bad (modules.Read fault)
 
+-- why a text gives no program, by the error of the verifier
 abbrev pub unaccepted : VerifyError → Refused
 unaccepted verifying.NoMemory = refused.NoMemory
 unaccepted (verifying.Layout fault) = refused.Bad (modules.Layout fault)

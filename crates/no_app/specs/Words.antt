@@ -18,6 +18,7 @@ pub record Asked : Type 0 where
   pub file : List ℕ
   pub steps : ℕ
 
+-- a word begins with a prefix
 abbrev pub begins : List ℕ → List ℕ → Bool
 begins prefix word = bytes_eq (take (length prefix) word) prefix
 
@@ -30,6 +31,7 @@ number_of most (c ∷ cs) = decimal most (c ∷ cs)
 abbrev pub budget_of : List ℕ → Option ℕ
 budget_of word = if nat_le (length word) 20 then number_of 4294967296 word else None
 
+-- the budget of instructions where none is stated
 abbrev pub default_budget : ℕ
 default_budget = 1000000000
 
@@ -60,6 +62,7 @@ hear_value word file steps =
     if begins (codes "-") word then None
     else with_budget word steps >>= (λ n. Some (record { waiting = false; file = file; steps = Some n }))
 
+-- the option `--steps`, whose value is the next word or stands behind a `=`
 abbrev pub hear_option : List ℕ → Option (List ℕ) → Option ℕ → Option Heard
 hear_option word file steps =
     if bytes_eq word (codes "--steps") then Some (record { waiting = true; file = file; steps = steps })
@@ -74,6 +77,7 @@ hear_word word file steps =
     else (if begins (codes "-") word then None
     else with_file word file >>= (λ name. Some (record { waiting = false; file = Some name; steps = steps })))
 
+-- the next word: an option's value where that is waited for, and else a word by itself
 abbrev pub hear : Bool → List ℕ → Option (List ℕ) → Option ℕ → Option Heard
 hear true word file steps = hear_value word file steps
 hear false word file steps = hear_word word file steps

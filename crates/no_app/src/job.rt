@@ -2,14 +2,14 @@ ghost use Rattle.std.specs.Prelude.{◌≡◌, ◌^◌, ◌≤◌, ◌<◌, ◌+
 ghost use Rattle.no_ir.specs.declared.function.Role.TheVariants.{Source};
 ghost use Rattle.no_ports.specs.Meanings.{Rose};
 ghost use Rattle.no_verify.specs.Verdict.{IsAccepted};
-ghost use Rattle.no_app.specs.Jobs.{AreBytes, Feeds, GoesOn, IsAtStart, IsRunnable, OnInput, OnRun, RanSo, TellsBytes, report_alone};
+ghost use Rattle.no_engine.specs.Parts.{IsFresh};
+ghost use Rattle.no_app.specs.Jobs.{AreBytes, Feeds, GoesOn, IsRunnable, OnInput, OnRun, RanSo, SlicedSo, TellsBytes, report_alone};
 
 use crate::report::Report;
-use no_image::{image, load};
+use no_engine::{Engine, Slice, booted};
 use no_ir::{End, NoMemory};
 use no_lib::{Env, Input};
-use no_machine::{Machine, StepAnswer, Steps};
-use no_pages::PageTable;
+use no_machine::Steps;
 use no_ports::{GaveAll, Sink, Source, Took, give_all};
 use no_semantics::Sound;
 use std::alloc::Global;
@@ -41,16 +41,6 @@ const SLICE: u64 = 65_536;
 
 /// The most bytes that are taken from the input at once.
 const PIECE: usize = 4096;
-
-/// A machine at the entry of `main`, over the program's first memory.
-fn booted(alloc: Global, sound: &Sound, budget: u64) -> Result<Machine<PageTable>, NoMemory>
-    requires { IsRunnable sound.now }
-    ensures { IfOk result (λ m. IsAtStart sound.now budget m) }
-{
-    let image = image(alloc, sound)?;
-    let memory = load(alloc, &image)?;
-    Machine::boot(alloc, sound, image.addresses, memory, budget)
-}
 
 /// The report of a run on the device alone.
 fn alone(count: u64) -> Report
@@ -100,28 +90,26 @@ fn feed<I: Source>(input: &mut I, piece: &mut [u8], env: &mut Env) -> Fed
     }
 }
 
-/// Runs a source slice by slice.
-fn slices<I: Source, O: Sink, L: Ledger>(
+/// Runs a program slice by slice, by an engine at the beginning of its run.
+pub(crate) fn slices<E: Engine, I: Source, O: Sink, L: Ledger>(
     alloc: Global,
-    sound: Sound,
-    budget: u64,
+    sound: &Sound,
+    engine: &mut E,
     input: &mut I,
     out: &mut O,
     steps: &mut Steps<L>,
 ) -> JobEnd
-    requires budget { budget ≤ 2 ^ 32 }
-    requires runnable { IsRunnable sound }
+    requires runnable { IsRunnable sound.now }
+    requires fresh { IsFresh (E.on sound.now) E.count E.budget sound.now (E.budget engine.old) engine.old }
     requires bytes { TellsBytes (I.left input.old) }
-    ensures run { OnInput (I.left input.old) (λ given. OnRun sound given budget (RanSo result (O.held out.old) (O.held out.new) steps.old steps.new)) }
+    ensures run { OnInput (I.left input.old) (λ given. OnRun sound.now given (E.budget engine.old) (SlicedSo (E.over sound.now engine.new given) result (O.held out.old) (O.held out.new) steps.old steps.new)) }
+    ensures budget { E.budget engine.new ≡ E.budget engine.old }
     ensures read { result ≡ JobEnd.ReadFault → Rose (I.faults input.old) (I.faults input.new) }
     ensures fault { result ≡ JobEnd.WriteFault → Rose (O.faults out.old) (O.faults out.new) }
     ensures reads { I.faults input.old ≤ I.faults input.new }
     ensures later { O.faults out.old ≤ O.faults out.new }
     ensures input { GoesOn (I.left input.old) (I.left input.new) }
 {
-    let Ok(mut machine) = booted(alloc, &sound, budget) else {
-        return JobEnd::NoMemory;
-    };
     let mut piece = [0; PIECE];
     let mut env = Env {
         input: Input::new(alloc),
@@ -129,7 +117,7 @@ fn slices<I: Source, O: Sink, L: Ledger>(
         output: Vec::new(alloc),
     };
     'slices: loop {
-        let answer = machine.run(&sound, SLICE, &mut env, steps);
+        let answer = engine.advance(sound, SLICE, &mut env, steps);
         match give_all(out, &env.output) {
             GaveAll::Done => {}
             GaveAll::Failed => return JobEnd::WriteFault,
@@ -137,17 +125,14 @@ fn slices<I: Source, O: Sink, L: Ledger>(
         }
         env.output.clear();
         match answer {
-            StepAnswer::Stepped => {}
-            StepAnswer::Ended(end) => return JobEnd::Ended(end, alone(machine.count())),
-            StepAnswer::WantInput => match feed(input, &mut piece, &mut env) {
+            Slice::Stepped => {}
+            Slice::Ended(end) => return JobEnd::Ended(end, alone(engine.count())),
+            Slice::WantInput => match feed(input, &mut piece, &mut env) {
                 Fed::Done => {}
                 Fed::Failed => return JobEnd::ReadFault,
                 Fed::NoMemory => return JobEnd::NoMemory,
             },
-            // All pages are there, and no instruction of an accepted source is without a meaning.
-            StepAnswer::WantPage(_) => unreachable!(),
-            StepAnswer::Stuck => unreachable!(),
-            StepAnswer::NoMemory => return JobEnd::NoMemory,
+            Slice::NoMemory => return JobEnd::NoMemory,
         }
     }
 }
@@ -176,5 +161,8 @@ pub fn local_job<I: Source, O: Sink, L: Ledger>(
     ensures later { O.faults out.old ≤ O.faults out.new }
     ensures input { GoesOn (I.left input.old) (I.left input.new) }
 {
-    slices(alloc, sound, budget, input, out, steps)
+    let Ok(mut machine) = booted(alloc, &sound, budget) else {
+        return JobEnd::NoMemory;
+    };
+    slices(alloc, &sound, &mut machine, input, out, steps)
 }

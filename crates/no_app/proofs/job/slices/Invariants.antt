@@ -8,12 +8,13 @@ invariant-slices g l =
     let held = g.O.Sink.held in
     let left = g.I.Source.left in
     record {
-      so : So l.fn.sound l.budget (left l.fn.input) (left l.input) (held l.fn.out) (held l.out) l.machine l.env;
+      so : So (g.E.Engine.on l.sound l.engine) (left l.fn.input) (left l.input) (held l.fn.out) (held l.out) l.env;
       empty : l.env.output.items ≡ [];
+      budget : g.E.Engine.budget l.engine ≡ g.E.Engine.budget l.fn.engine;
       reads : g.I.Source.faults l.fn.input ≤ g.I.Source.faults l.input;
       later : g.O.Sink.faults l.fn.out ≤ g.O.Sink.faults l.out;
-      counts : HasCounted l.fn.steps l.steps l.machine;
+      counts : HasCounted l.fn.steps l.steps (g.E.Engine.count l.engine);
     }
 
 abbrev pub decreases-slices : goal.decreases-slices
-decreases-slices g l = work_left l.machine l.env
+decreases-slices g l = work_left (g.E.Engine.budget l.engine) (g.E.Engine.count l.engine) l.env

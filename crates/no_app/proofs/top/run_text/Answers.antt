@@ -1,6 +1,7 @@
 use Rattle.std.proofs.Common.{ℕ, List, refl}
 use Rattle.no_app.specs.Outcomes.{Flow, Idle, RunsText, WritesText, outcome_of_job}
-use Rattle.no_app.proofs.Outcomes.{JobRan, goes_on_same, input_more, job_ran, no_refusal, ran_part, refused_part, refused_ran}
+use Rattle.no_app.proofs.Jobs.{input_more}
+use Rattle.no_app.proofs.Outcomes.{JobRan, goes_on_same, job_ran, no_refusal, ran_part, refused_part, refused_ran}
 use Rattle.no_app.proofs.top.run_text.Goals as goal
 
 pub returns-in-Ok-clause-says : goal.returns-in-Ok-clause-says
