@@ -23,6 +23,7 @@ abbrev pub may_be : Module → Ty → List (Ty × Operand) → ℕ → Function 
 may_be m t args k g (Some named) = nat_eq named k
 may_be m t args k g None = is_callable m Source k g && has_type t args g
 
+-- an instruction may call function k, which is g
 abbrev pub op_may_call : Module → ℕ → Function → Op → Bool
 op_may_call m k g (op.Call t callee args) = may_be m t args k g (direct callee)
 op_may_call m k g o = false

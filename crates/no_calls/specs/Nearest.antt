@@ -9,6 +9,7 @@ use Rattle.no_calls.specs.Spreading.{at}
 abbrev pub IsNotAfter : ℕ × ℕ → ℕ × ℕ → Type 0
 IsNotAfter x y = (x.0 < y.0) ⊎ ((x.0 ≡ y.0) × (x.1 ≤ y.1))
 
+-- a distance with a number does not come after another, and there is one wherever there is another
 abbrev pub Comes : Option (ℕ × ℕ) → Option (ℕ × ℕ) → Type 0
 Comes x None = Unit {0}
 Comes None (Some y) = ⊥

@@ -3,6 +3,7 @@ use Rattle.std.specs.Prelude.{ℕ, ◌<◌, ◌⊎◌, ◌≡◌, List, [], leng
 use Rattle.std.specs.Global.{Global}
 use Rattle.std.specs.List.{Contains}
 
+-- the items of a row, none where there is no row
 abbrev pub items_in : Option (Vec ℕ Global) → List ℕ
 items_in None = []
 items_in (Some row) = row.items

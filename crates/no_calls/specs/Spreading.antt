@@ -10,6 +10,7 @@ use Rattle.no_calls.specs.declared.found.Found.{Found}
 abbrev pub at : List (Option ℕ) → ℕ → Option ℕ
 at far k = slice_index_or far k None
 
+-- number k was found
 abbrev pub IsFound : List (Option ℕ) → ℕ → Type 0
 IsFound far k = (d : ℕ) × (at far k ≡ Some d)
 
@@ -25,11 +26,12 @@ pub record Measured (R : ℕ → ℕ → Type 0) (starts : List ℕ) (n : ℕ) (
   pub back : (b d : ℕ) → at far b ≡ Some (d + 1) → (a : ℕ) × R a b × (at far a ≡ Some d)
   pub on : (a b d : ℕ) → R a b → at far a ≡ Some d → (e : ℕ) × (at far b ≡ Some e) × (e ≤ d + 1)
 
--- how many numbers were not found
+-- a number that was not found is one
 abbrev pub unmet_one : Option ℕ → ℕ
 unmet_one None = 1
 unmet_one (Some d) = 0
 
+-- how many numbers were not found
 abbrev pub unmet : List (Option ℕ) → ℕ
 unmet [] = 0
 unmet (o ∷ far) = unmet_one o + unmet far
@@ -47,6 +49,7 @@ pub record Noted (why : ℕ → Type 0) (level : ℕ) (old new : Found) : Type 0
 abbrev pub AreFound : List ℕ → Found → Type 0
 AreFound ks found = (b : ℕ) → Contains ks b → IsFound found.far.items b
 
+-- set s is done
 abbrev pub is_done : List Bool → ℕ → Bool
 is_done done s = slice_index_or done s false
 

@@ -21,10 +21,12 @@ abbrev pub named_from : List ℕ → ℕ → List Function → Option ℕ
 named_from name k [] = None
 named_from name k (g ∷ more) = if bytes_eq g.name name then Some k else named_from name (k + 1) more
 
+-- the name of a function, empty where there is no function
 abbrev pub name_in : Option Function → List ℕ
 name_in None = []
 name_in (Some g) = g.name
 
+-- the names of the functions on a path, in order
 abbrev pub names_of : Module → List ℕ → List (List ℕ)
 names_of m path = map (λ (k : ℕ). name_in (slice_get m.functions k)) path
 
@@ -38,6 +40,7 @@ Spares m f goals = IsShortest (MayCall m) goals f None
 abbrev pub Leads : Module → ℕ → List ℕ → List (List ℕ) → Type 0
 Leads m f goals names = (path : List ℕ) × IsShortest (MayCall m) goals f (Some path) × (names ≡ names_of m path)
 
+-- function f reaches none of these, or one along a path of these names
 abbrev pub Answers : Module → ℕ → List ℕ → Option (List (List ℕ)) → Type 0
 Answers m f goals None = Spares m f goals
 Answers m f goals (Some names) = Leads m f goals names
@@ -76,6 +79,7 @@ abbrev pub IsUnknown : List ℕ → Verdict → Type 0
 IsUnknown name (Bound rule.NotDefined names) = names ≡ name ∷ []
 IsUnknown name _ = ⊥
 
+-- the verdict on a name, by the number of the function that has it, if one has
 abbrev pub IsJudgedOf : Accepted → List ℕ → Layout → Option ℕ → Verdict → Type 0
 IsJudgedOf m name server None verdict = IsUnknown name verdict
 IsJudgedOf m name server (Some f) verdict = IsOf m name server f verdict

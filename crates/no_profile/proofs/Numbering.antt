@@ -1,5 +1,5 @@
 -- The table of the defined functions by their names.
-use Rattle.std.proofs.Common.{◌≡◌, ℕ, zero, suc, ◌+◌, ◌<◌, ◌≤◌, Bool, true, false, cond, not, ◌&&◌, ◌||◌, List, [], ◌∷◌, ◌++◌, length, Option, Some, None, option_and_then, is_some, bytes_eq, ltb, slice_get, if◌then◌else◌, refl, sym, ap, ◌∙◌, true≢false, arith, add-one, one-add, drop, drop-cons, get_or, length-take-le, subst, take, take-suc, take_all, Result, Ok, Err, OnOk}
+use Rattle.std.proofs.Common.{◌≡◌, ℕ, suc, ◌+◌, ◌<◌, ◌≤◌, Bool, true, false, cond, not, ◌&&◌, ◌||◌, List, [], ◌∷◌, ◌++◌, length, Option, Some, None, option_and_then, is_some, bytes_eq, ltb, slice_get, if◌then◌else◌, refl, sym, ap, ◌∙◌, true≢false, arith, add-one, one-add, drop, drop-cons, get_or, length-take-le, subst, take, take-suc, take_all, Result, Ok, Err, OnOk}
 use Rattle.std.proofs.lemmas.Bool.{le-ltb, lt-ltb, ltb-true, ltb-false}
 use Rattle.std.proofs.lemmas.Option.{slice_get_past}
 use Rattle.std.proofs.lemmas.Slice.Eq.{bytes_eq-Decides}

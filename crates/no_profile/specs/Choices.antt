@@ -3,7 +3,6 @@ use Rattle.std.specs.Prelude.{◌≡◌, ℕ, zero, suc, ◌+◌, ◌==◌, Bool
 use Rattle.std.specs.List.{list_any}
 use Rattle.no_ir.specs.Naming.{is_known}
 use Rattle.no_ir.specs.declared.function.Function.{Function}
-use Rattle.no_ir.specs.declared.function.Module.{Module}
 use Rattle.no_module.specs.Functions.{is_declared}
 use Rattle.no_profile.specs.Gains.{is_worth}
 use Rattle.no_profile.specs.declared.fault.SelectError.{SelectError}

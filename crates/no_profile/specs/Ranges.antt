@@ -1,5 +1,5 @@
 -- How great the numbers of a profile may be.
-use Rattle.std.specs.Prelude.{ℕ, ◌^◌, ◌≤◌, List, [], ◌∷◌}
+use Rattle.std.specs.Prelude.{ℕ, ◌≤◌, List, [], ◌∷◌}
 use Rattle.no_profile.specs.declared.profile.Line.{Line}
 use Rattle.no_profile.specs.declared.profile.Profile.{Profile}
 

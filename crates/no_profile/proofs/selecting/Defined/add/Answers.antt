@@ -1,4 +1,4 @@
-use Rattle.std.proofs.Common.{sym, ◌∙◌}
+use Rattle.std.proofs.Common.{◌∙◌}
 use Rattle.no_profile.proofs.Numbering.{found_known, names_stay, numbers_grow, numbers_stay}
 use Rattle.no_profile.proofs.selecting.Defined.add.Goals as goal
 

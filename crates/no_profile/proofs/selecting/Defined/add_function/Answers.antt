@@ -1,4 +1,4 @@
-use Rattle.std.proofs.Common.{sym, ap, ◌∙◌, List, ℕ, ◌≡◌, ◌++◌, ◌∷◌, [], OnOk, if◌then◌else◌, subst}
+use Rattle.std.proofs.Common.{sym, ◌∙◌, List, ℕ, ◌≡◌, ◌++◌, ◌∷◌, [], OnOk, if◌then◌else◌, subst}
 use Rattle.no_ir.specs.Naming.{is_known, with_name}
 use Rattle.no_profile.proofs.Numbering.{added_on, skipped}
 use Rattle.no_profile.proofs.selecting.Defined.add_function.Goals as goal

@@ -1,0 +1,4 @@
+pub mod Moments
+pub mod Profiled
+pub mod Tallied
+pub mod Lines
