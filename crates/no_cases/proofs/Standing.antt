@@ -3,11 +3,11 @@ use Rattle.std.proofs.Common.{◌≡◌, ◌+◌, ◌-◌, ◌*◌, ◌<◌, ◌
 use Rattle.std.specs.Prelude.{IfOk, OnOk}
 use Rattle.std.proofs.lemmas.Bool.{eq-eqb}
 use Rattle.std.proofs.lemmas.Option.{none-some, same_Some}
-use Rattle.no_app.proofs.Ending.{free_steps}
 use Rattle.no_app.proofs.Jobs.{each_append}
 use Rattle.no_app.proofs.Runnable.{never_stuck, runnable}
-use Rattle.no_app.proofs.Ways.{MayGoOn, RanBy, Went, in_env, own, run_steps, run_went}
 use Rattle.no_app.specs.Jobs.{AreBytes}
+use Rattle.no_engine.proofs.Ways.{RanBy, free_steps, run_steps}
+use Rattle.no_engine.specs.Local.{own}
 use Rattle.no_ir.specs.declared.ending.End.{End}
 use Rattle.no_ir.specs.declared.function.Role.TheVariants.{Source}
 use Rattle.no_ir.specs.declared.memory.NoMemory.{NoMemory}
@@ -17,7 +17,7 @@ use Rattle.no_layout.specs.Memory.{Agrees, also, page_of, written}
 use Rattle.no_layout.specs.declared.memory.Regions.{Regions}
 use Rattle.no_lib.specs.declared.env.Env.{Env}
 use Rattle.no_machine.specs.Booted.{HasPage, IsBooted}
-use Rattle.no_machine.specs.Ran.{HasNotMoved, IsAt, IsMade, Stays, budget_of, count_of, end_of, memory_of}
+use Rattle.no_machine.specs.Ran.{GoesOn, HasNotMoved, HasRun, IsAt, IsMade, IsThere, Stays, Stops, budget_of, count_of, end_of, left_of, memory_of}
 use Rattle.no_machine.specs.Ran as machine
 use Rattle.no_machine.specs.Turning.{NeverStuck}
 use Rattle.no_machine.specs.declared.machine.Machine.{Machine}
@@ -28,8 +28,10 @@ use Rattle.no_pages.specs.declared.table.PageTable.{PageTable}
 use Rattle.no_progress.proofs.Beginning.{begins}
 use Rattle.no_safe.proofs.Accepting.{has_main, is_safe}
 use Rattle.no_semantics.specs.Accepted.{Accepted}
+use Rattle.no_semantics.specs.Acting.{step}
 use Rattle.no_semantics.specs.First.{program_of}
 use Rattle.no_semantics.specs.Registers.{given}
+use Rattle.no_semantics.specs.Rows.{Row}
 use Rattle.no_semantics.specs.Starts.{begun, main_frame, start}
 use Rattle.no_semantics.specs.States.{Frame, State}
 use Rattle.no_semantics.specs.Values.{Program}
@@ -100,6 +102,33 @@ may_run a m env is going =
 
 -- ---- it was run
 
+-- the answers after which the run may go on
+abbrev MayGoOn : StepAnswer → Type 0
+MayGoOn answer.Stepped = Unit {0}
+MayGoOn (answer.WantPage page) = Unit {0}
+MayGoOn answer.WantInput = Unit {0}
+MayGoOn answer.NoMemory = Unit {0}
+MayGoOn (answer.Ended e) = ⊥
+MayGoOn answer.Stuck = ⊥
+
+-- where it is then, and what was counted
+abbrev Went : Program → State → List ℕ → ℕ → List ℕ → Machine' → Machine' → Env → Env → Type 0
+Went p state bytes cost more m m' env env' = IsThere byte_of held_of p bytes state more m' env env' × GoesOn cost m m'
+
+went_by : (p : Program) (s : State) (limit : ℕ) (bytes : List ℕ) (cost : ℕ) (state : State) (row : Row) (more : List ℕ) (told : StepAnswer) (m m' : Machine') (env env' : Env)
+    → MayGoOn told → Stops byte_of held_of limit p s bytes cost state row more told m m' env env' → Went p state bytes cost more m m' env env'
+went_by p s limit bytes cost state row more answer.Stepped m m' env env' may stops = (stops.0, stops.2)
+went_by p s limit bytes cost state row more (answer.WantPage page) m m' env env' may stops = (stops.0, stops.2)
+went_by p s limit bytes cost state row more answer.WantInput m m' env env' may stops = (stops.0, stops.4)
+went_by p s limit bytes cost state row more answer.NoMemory m m' env env' may stops = stops
+went_by p s limit bytes cost state row more (answer.Ended e) m m' env env' may stops = absurd may
+went_by p s limit bytes cost state row more answer.Stuck m m' env env' may stops = absurd may
+
+run_went : (a : Accepted) (limit : ℕ) (told : StepAnswer) (m m' : Machine') (env env' : Env) (more : List ℕ) (s : State) → MayGoOn told
+    → (run : HasRun byte_of held_of (own a m) limit told m m' env env' more s) → Went (own a m) run.state run.bytes run.cost more m m' env env'
+run_went a limit told m m' env env' more s may run =
+    went_by (own a m) s limit run.bytes run.cost run.state (step (own a m) (left_of m - run.cost) run.state) more told m m' env env' may run.stops
+
 module _ (a : Accepted) (limit : ℕ) (m m' : Machine') (env env' : Env) (stays : Stays regions_of held_of m m') where
   -- it stands for the state behind it
   there : (told : StepAnswer) (ran : RanBy a limit told m m' env env') → MayGoOn told → (more : List ℕ) (s : State) (at : StandsFor a m env more s) → StandsFor a m' env' more (ran more s at).state
@@ -165,6 +194,16 @@ module _ (a : Accepted) (limit : ℕ) (m m' : Machine') (env env' : Env) (stays 
           ap (λ (f : ℕ → ℕ). f at) (sym plain.1) ∙ ap (λ (s : State). s.byte at) (sym (same [] plain.0 plain.2)) ∙ sym (t.here.agrees at now) ∙ agrees at now
 
 -- ---- the input
+
+-- it stands for its state in each environment of which the input is the same to the end
+in_env : (p : Program) (m : Machine') (env env' : Env) (more more' : List ℕ) (s : State) → IsAt byte_of held_of p m env more s
+    → env.input ++ more ≡ env'.input ++ more' → (env'.ended ≡ true → more' ≡ []) → IsAt byte_of held_of p m env' more' s
+in_env p m env env' more more' s at same closed = record {
+  here = at.here;
+  blocks = at.blocks;
+  rest = at.rest ∙ same;
+  last = closed;
+}
 
 pub fed : (a : Accepted) (m : Machine') (env env' : Env) (bytes : List ℕ) → IsReady a m env → AreBytes bytes → (env.ended ≡ true → ⊥) → env'.input ≡ env.input ++ bytes → IsReady a m env'
 fed a m env env' bytes is are open_end input = record {

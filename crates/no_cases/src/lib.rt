@@ -23,4 +23,6 @@ mod pages;
 #[cfg(test)]
 mod ports;
 #[cfg(test)]
+mod profiles;
+#[cfg(test)]
 mod spellings;
