@@ -2,7 +2,8 @@
 
 python3 bench/gate.py FOLDER [CRATE ..] runs `rt ci --anew` there, of the whole clone or of some crates and those below them, reads
 every half second what each process of the prover has used, and prints the rows of the table in docs/GATE.md: how many edits a crate
-has, and the times of its proof, of its tests, and of trying its edits.
+has, and the times of its proof, of its tests, and of trying its edits. Behind them stand the whole, and the longest chain of crates each
+of which uses the one before, by the clock: how long it is from the first process of a crate's proof to its last one's end, added up.
 """
 import collections
 import glob
@@ -36,8 +37,8 @@ def kind_of(pid, line):
     return TESTS if " --test " in line else PROOF
 
 
-def sample(seen):
-    """Notes what each process of the prover has used by now, workers of a proof too."""
+def sample(seen, spans):
+    """Notes what each process of the prover has used by now, workers of a proof too, and when each crate's proof was seen at work."""
     for pid in filter(str.isdigit, os.listdir("/proc")):
         line = read(f"/proc/{pid}/cmdline")
         name = re.search(r"/rattle (?:build|check|test) --crate-name (\S+) ", line)
@@ -45,6 +46,21 @@ def sample(seen):
         if fields:
             _, kind, _ = seen.get((pid, fields[19]), (None, kind_of(pid, line), None))
             seen[pid, fields[19]] = name[1], kind, (int(fields[11]) + int(fields[12])) / TICKS
+            if kind == PROOF:
+                begun, _ = spans.get(name[1], (time.monotonic(), None))
+                spans[name[1]] = begun, time.monotonic()
+
+
+def chain(root, spans):
+    """The longest chain of crates, by the clock, and the crates on it."""
+    longest = {}
+    with open(f"{root}/crates.txt", encoding="utf-8") as file:
+        lines = [line for line in file if line.strip() and not line.startswith("#")]
+    for name, _, uses in (line.partition(":") for line in lines):
+        before = max((longest[it] for it in uses.split() if it in longest), default=(0.0, []))
+        begun, ended = spans.get(name, (0.0, 0.0))
+        longest[name] = before[0] + ended - begun, [*before[1], name]
+    return max(longest.values())
 
 
 def shown(seconds):
@@ -54,9 +70,9 @@ def shown(seconds):
 
 def main():
     gate = subprocess.Popen(["rt", "ci", *sys.argv[2:], "--anew"], cwd=sys.argv[1], stdout=sys.stderr)
-    seen = {}
+    seen, spans = {}, {}
     while gate.poll() is None:
-        sample(seen)
+        sample(seen, spans)
         time.sleep(0.5)
     rows = collections.defaultdict(lambda: [0.0, 0.0, 0.0])
     for name, kind, used in seen.values():
@@ -65,6 +81,8 @@ def main():
         number = len(glob.glob(f"{sys.argv[1]}/crates/{name}/must-fail/*.edit"))
         print(f"| `{name}` | {number} | {' | '.join(map(shown, row))} |")
     print(f"whole: {shown(sum(map(sum, rows.values())))}", file=sys.stderr)
+    length, crates = chain(sys.argv[1], spans)
+    print(f"longest chain: {shown(length)}: {' '.join(crates)}", file=sys.stderr)
     return gate.returncode
 
 

@@ -40,7 +40,7 @@ abbrev pub IsReady : Option WireFault → ℕ → List ℕ → Type 0
 IsReady None until rest = IsOpen rest × StaysOpen until rest
 IsReady (Some f) until rest = Unit {0}
 
--- what a decoder answers to a piece
+-- what a decoder answers to a piece, where it met no fault before
 abbrev pub IsFedWhole : Decoding → List ℕ → FeedAnswer → Decoding → Type 0
 IsFedWhole old piece (answer.Frames out) new = (new.fault ≡ None) × AreMessages out × IsPartial new.rest × (stream_of out new.rest ≡ old.rest ++ piece)
 IsFedWhole old piece (answer.Fault before f) new =
@@ -53,9 +53,11 @@ IsFedBroken f (answer.Frames out) new = ⊥
 IsFedBroken f (answer.Fault before g) new = (g ≡ f) × (before ≡ []) × (new.fault ≡ Some f)
 IsFedBroken f answer.NoMemory new = ⊥
 
+-- what a decoder answers to a piece, by whether it met a fault before
 abbrev pub fed_by : Option WireFault → Decoding → List ℕ → FeedAnswer → Decoding → Type 0
 fed_by None old piece a new = IsFedWhole old piece a new
 fed_by (Some f) old piece a new = IsFedBroken f a new
 
+-- what a decoder answers to a piece, and what it knows behind it
 abbrev pub IsFed : Decoding → List ℕ → FeedAnswer → Decoding → Type 0
 IsFed old piece a new = fed_by old.fault old piece a new

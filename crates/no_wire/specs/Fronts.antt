@@ -11,13 +11,15 @@ use Rattle.no_wire.specs.declared.scan.Tail.TheVariants as tail
 use Rattle.no_wire.specs.declared.scan.Seen.TheVariants as seen
 use Rattle.no_wire.specs.Kinds.{HasLength, is_of_no_epoch, kind_at}
 
--- the byte at a place, and the numbers that stand there
+-- the byte at a place, 0 where none stands there yet
 abbrev pub at : List ℕ → ℕ → ℕ
 at bytes i = get_or bytes i 0
 
+-- the number of 4 bytes at a place, the most significant byte first
 abbrev pub number_32 : List ℕ → ℕ → ℕ
 number_32 bytes i = from_be_bytes w32 (at bytes i ∷ at bytes (i + 1) ∷ at bytes (i + 2) ∷ at bytes (i + 3) ∷ [])
 
+-- the number of 8 bytes at a place, the most significant byte first
 abbrev pub number_64 : List ℕ → ℕ → ℕ
 number_64 bytes i =
     from_be_bytes w64 (at bytes i ∷ at bytes (i + 1) ∷ at bytes (i + 2) ∷ at bytes (i + 3) ∷ at bytes (i + 4) ∷ at bytes (i + 5) ∷ at bytes (i + 6) ∷ at bytes (i + 7) ∷ [])
@@ -26,25 +28,30 @@ number_64 bytes i =
 abbrev pub length_in : List ℕ → ℕ
 length_in bytes = number_32 bytes 0
 
+-- the length is one that a frame states: 5 to 65,536
 pub record LengthGood (bytes : List ℕ) : Type 0 where
   pub b0 : 0 < length bytes → at bytes 0 ≡ 0
   pub b1 : 1 < length bytes → at bytes 1 ≤ 1
   pub b2 : 2 < length bytes → at bytes 1 ≡ 1 → at bytes 2 ≡ 0
   pub b3 : 3 < length bytes → (5 ≤ length_in bytes) × (length_in bytes ≤ 65536)
 
+-- the epoch is 0
 pub record NoEpochGood (bytes : List ℕ) : Type 0 where
   pub b5 : 5 < length bytes → at bytes 5 ≡ 0
   pub b6 : 6 < length bytes → at bytes 6 ≡ 0
   pub b7 : 7 < length bytes → at bytes 7 ≡ 0
   pub b8 : 8 < length bytes → at bytes 8 ≡ 0
 
+-- the epoch is not 0, which only its last byte tells
 abbrev pub SomeEpochGood : List ℕ → Type 0
 SomeEpochGood bytes = 8 < length bytes → 0 < at bytes 5 + at bytes 6 + at bytes 7 + at bytes 8
 
+-- the epoch is 0 where the kind belongs to none, and not 0 where it belongs to one
 abbrev pub epoch_good_if : Bool → List ℕ → Type 0
 epoch_good_if true bytes = NoEpochGood bytes
 epoch_good_if false bytes = SomeEpochGood bytes
 
+-- the epoch is right for the kind
 abbrev pub EpochGood : Kind → List ℕ → Type 0
 EpochGood k bytes = epoch_good_if (is_of_no_epoch k) bytes
 
@@ -65,6 +72,7 @@ pub record FinishGood (bytes : List ℕ) : Type 0 where
   pub two : 17 < length bytes → at bytes 9 ≡ 2 → (1 ≤ at bytes 17) × (at bytes 17 ≤ 9)
   pub three : 17 < length bytes → at bytes 9 ≡ 3 → at bytes 17 ≡ 0
 
+-- the body is right for the kind; only the bodies of a call and of its end are asked anything
 abbrev pub BodyGood : Kind → List ℕ → Type 0
 BodyGood kind.Start bytes = StartGood bytes
 BodyGood kind.Finish bytes = FinishGood bytes

@@ -8,10 +8,11 @@ use Rattle.no_wire.specs.declared.msg.Msg.{Msg}
 use Rattle.no_wire.specs.declared.msg.Msg.TheVariants as msg
 use Rattle.no_wire.specs.Kinds.{kind_number}
 
--- numbers of 4 and 8 bytes, the most significant byte first
+-- a number of 4 bytes, the most significant byte first
 abbrev pub be32 : ℕ → List ℕ
 be32 n = to_be_bytes w32 n
 
+-- a number of 8 bytes, the most significant byte first
 abbrev pub be64 : ℕ → List ℕ
 be64 n = to_be_bytes w64 n
 
@@ -19,6 +20,7 @@ be64 n = to_be_bytes w64 n
 abbrev pub pair_bytes : ℕ × ℕ → List ℕ
 pair_bytes p = be32 p.0 ++ be32 p.1
 
+-- the kind of a message
 abbrev pub kind_of : Msg → Kind
 kind_of (msg.Load text) = kind.Load
 kind_of (msg.LoadEnd constants_end globals_end) = kind.LoadEnd
@@ -52,10 +54,11 @@ epoch_of (msg.Heap epoch pairs) = epoch
 epoch_of (msg.Finish epoch end value counted dirty entries output) = epoch
 epoch_of (msg.Declined epoch) = epoch
 
--- the bodies of a call and of its end
+-- the body of a call: function, budget, stack pointer, how many heap blocks there are, and the arguments behind their count
 abbrev pub start_body : ℕ → ℕ → ℕ → ℕ → List ℕ → List ℕ
 start_body function budget sp blocks args = be32 function ++ (be64 budget ++ (be32 sp ++ (be32 blocks ++ (length args ∷ flat_map be64 args))))
 
+-- the body of a call's end: how it ended, its value, what it counted, and how many dirty pages, heap entries and bytes of output were sent
 abbrev pub finish_body : ℕ → ℕ → ℕ → ℕ → ℕ → ℕ → List ℕ
 finish_body end value counted dirty entries output = end ∷ (be64 value ++ (be64 counted ++ (be32 dirty ++ (be32 entries ++ be64 output))))
 
@@ -107,17 +110,21 @@ frame m = framed (kind_of m) (epoch_of m) (body_of m)
 
 -- ---- fields in the ranges of their types
 
+-- each number is below 256
 abbrev pub AreBytes : List ℕ → Type 0
 AreBytes bytes = (i : ℕ) → get_or bytes i 0 < 256
 
+-- each number has at most 64 bits
 abbrev pub AreNumbers : List ℕ → Type 0
 AreNumbers [] = Unit {0}
 AreNumbers (n ∷ more) = (n < 2 ^ 64) × AreNumbers more
 
+-- both numbers of each pair have at most 32 bits
 abbrev pub ArePairs : List (ℕ × ℕ) → Type 0
 ArePairs [] = Unit {0}
 ArePairs (p ∷ more) = (p.0 < 2 ^ 32) × (p.1 < 2 ^ 32) × ArePairs more
 
+-- each field of a message is in the range of its type
 abbrev pub InRange : Msg → Type 0
 InRange (msg.Load text) = AreBytes text
 InRange (msg.LoadEnd constants_end globals_end) = (constants_end < 2 ^ 32) × (globals_end < 2 ^ 32)
@@ -138,6 +145,7 @@ InRange (msg.Declined epoch) = epoch < 2 ^ 32
 abbrev pub IsMessage : Msg → Type 0
 IsMessage m = InRange m × Fits m
 
+-- messages as they are sent and got
 abbrev pub AreMessages : List Msg → Type 0
 AreMessages [] = Unit {0}
 AreMessages (m ∷ more) = IsMessage m × AreMessages more

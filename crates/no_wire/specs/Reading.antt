@@ -6,21 +6,25 @@ use Rattle.no_wire.specs.declared.msg.Msg.{Msg}
 use Rattle.no_wire.specs.declared.msg.Msg.TheVariants as msg
 use Rattle.no_wire.specs.Fronts.{at, number_32, number_64}
 
--- so many numbers of 8 bytes, and pairs of numbers of 4, one behind the other
+-- so many numbers of 8 bytes, one behind the other
 abbrev pub numbers_in : ℕ → List ℕ → List ℕ
 numbers_in zero bytes = []
 numbers_in (suc count) bytes = number_64 (take 8 bytes) 0 ∷ numbers_in count (drop 8 bytes)
 
+-- so many pairs of numbers of 4 bytes, one behind the other
 abbrev pub pairs_in : ℕ → List ℕ → List (ℕ × ℕ)
 pairs_in zero bytes = []
 pairs_in (suc count) bytes = (number_32 (take 8 bytes) 0, number_32 (take 8 bytes) 4) ∷ pairs_in count (drop 8 bytes)
 
+-- as many numbers as there are 8 bytes
 abbrev pub all_numbers : List ℕ → List ℕ
 all_numbers bytes = numbers_in (length bytes / 8) bytes
 
+-- as many pairs as there are 8 bytes
 abbrev pub all_pairs : List ℕ → List (ℕ × ℕ)
 all_pairs bytes = pairs_in (length bytes / 8) bytes
 
+-- the message that a whole frame of this kind says
 abbrev pub message_in : Kind → List ℕ → Msg
 message_in kind.Load f = msg.Load (drop 9 f)
 message_in kind.LoadEnd f = msg.LoadEnd (number_32 f 9) (number_32 f 13)

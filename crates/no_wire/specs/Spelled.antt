@@ -13,5 +13,6 @@ front n k epoch = be32 n ++ (kind_number k ∷ be32 epoch)
 abbrev pub Keeps : List ℕ → List ℕ → Type 0
 Keeps before after = take (length before) after ≡ before
 
+-- the frame of a message was appended
 abbrev pub AddsFrame : List ℕ → List ℕ → Msg → Type 0
 AddsFrame before after m = after ≡ before ++ frame m

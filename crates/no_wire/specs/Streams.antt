@@ -12,13 +12,15 @@ use Rattle.no_wire.specs.Messages.{IsMessage, be32, frame}
 abbrev pub IsPartial : List ℕ → Type 0
 IsPartial rest = (m : Msg) × (more : List ℕ) × IsMessage m × (0 < length more) × (rest ++ more ≡ frame m)
 
--- bytes that can go on, or have gone on, so that a length, a length and a kind, or a frame stands at their front
+-- bytes that can go on, or have gone on, so that a length stands at their front
 abbrev pub BeginsLength : List ℕ → Type 0
 BeginsLength rest = (n : ℕ) × (more : List ℕ) × (behind : List ℕ) × (5 ≤ n) × (n ≤ 65536) × (rest ++ more ≡ be32 n ++ behind)
 
+-- bytes that can go on, or have gone on, so that a length and a kind stand at their front
 abbrev pub BeginsKind : List ℕ → Type 0
 BeginsKind rest = (n : ℕ) × (k : Kind) × (more : List ℕ) × (behind : List ℕ) × (5 ≤ n) × (n ≤ 65536) × (rest ++ more ≡ be32 n ++ (kind_number k ∷ behind))
 
+-- bytes that can go on, or have gone on, so that a frame stands at their front
 abbrev pub BeginsFrame : List ℕ → Type 0
 BeginsFrame rest = (m : Msg) × (more : List ℕ) × (behind : List ℕ) × IsMessage m × (rest ++ more ≡ frame m ++ behind)
 
